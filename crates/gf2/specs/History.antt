@@ -1,0 +1,50 @@
+-- DEMAND 3: calls and their answers, the position that they lead to, and which answers are right there.
+--   Event       a call with its answer; a refusal is one of any call
+--   after s e   what is open after it: the constraints last opened and the surviving assumptions, or nothing
+--   Right s e   the answer is the definition's for what is open before it
+--   Runs, at-end   each answer of a run of calls is right where it is given; what is open after the run
+-- Assumes nothing.
+use mathlib.Core.Option.{Option, none, some}
+use mathlib.Core.List.{List, [], _∷_}
+use lib.ListN.{length}
+use Prim.Native.Nat.{ℕ, _≤_}
+use Rattle.gf2.specs.Rows.{Var, Rows}
+use Rattle.gf2.specs.Answers.{Literal, Position, start, assumed, withdrawn, OpenAnswer, unsatisfiable, opened, AnswersOpen, AssumeAnswer, held, conflict, implied, AnswersAssume, ExplainAnswer, AnswersExplain, Unexplained}
+
+pub data Event : Type 0 where
+  opens : ℕ → Rows → OpenAnswer → Event
+  assumes : ℕ → AssumeAnswer → Event
+  backs : ℕ → Event
+  explains : ℕ → ExplainAnswer → Event
+  refused : ℕ → Event
+
+abbrev pub after : Option Position → Event → Option Position
+after s (opens n rows (opened count list)) = some (start n rows)
+after s (opens n rows (unsatisfiable list)) = none
+after none (assumes l answer) = none
+after (some p) (assumes l held) = some p
+after (some p) (assumes l conflict) = some p
+after (some p) (assumes l (implied list)) = some (assumed p l)
+after none (backs d) = none
+after (some p) (backs d) = some (withdrawn p d)
+after s (explains v answer) = s
+after s (refused number) = s
+
+-- When a refusal is given, and its number, is the table of document 01.
+abbrev pub Right : Option Position → Event → Type 0
+Right s (opens n rows answer) = AnswersOpen n rows answer
+Right none (assumes l answer) = ⊥
+Right (some p) (assumes l answer) = Literal (p .n) l × AnswersAssume p l answer
+Right none (backs d) = ⊥
+Right (some p) (backs d) = d ≤ length (p .taken)
+Right none (explains v answer) = ⊥
+Right (some p) (explains v answer) = Var (p .n) v × (Unexplained p v → ⊥) × AnswersExplain p v answer
+Right s (refused number) = Unit {0}
+
+abbrev pub Runs : Option Position → List Event → Type 0
+Runs s [] = Unit {0}
+Runs s (e ∷ es) = Right s e × Runs (after s e) es
+
+abbrev pub at-end : Option Position → List Event → Option Position
+at-end s [] = s
+at-end s (e ∷ es) = at-end (after s e) es

@@ -1,0 +1,5 @@
+pub mod Field
+pub mod Lists
+pub mod Rows
+pub mod Answers
+pub mod History

@@ -1,0 +1,12 @@
+pub mod Combine
+pub mod Tableaux
+pub mod Pivot
+pub mod Exchange
+pub mod Insert
+pub mod Assume
+pub mod Spans
+pub mod Settling
+pub mod Assuming
+pub mod Opening
+pub mod Keeping
+pub mod Pigeons

@@ -1,0 +1,1 @@
+// Nothing to run: tableaux, and the invariant of the module, with their theory.
