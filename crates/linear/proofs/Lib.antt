@@ -10,3 +10,6 @@ pub mod Assuming
 pub mod Opening
 pub mod Keeping
 pub mod Pigeons
+pub mod Joined
+pub mod Taking
+pub mod Explaining

@@ -1,2 +1,3 @@
 pub mod Systems
 pub mod State
+pub mod Positions
