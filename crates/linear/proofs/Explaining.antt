@@ -34,8 +34,11 @@ pub scanned-same : (n : ℕ) (t t′ b b′ : ℕ → Bool) → ((v : ℕ) → V
 unfolding scanned
 scanned-same zero t t′ b b′ f g = refl
 scanned-same (suc n) t t′ b b′ f g =
-    rw (scanned-same n t t′ b b′ (λ v l. f v (record { low = l .low; high = let h = l .high in omega arith })) (λ v l. g v (record { low = l .low; high = let h = l .high in omega arith })),
-      f (suc n) (record { low = omega arith; high = omega arith }), g (suc n) (record { low = omega arith; high = omega arith }))
+    rw (
+      scanned-same n t t′ b b′ (λ v l. f v (record { low = l .low; high = let h = l .high in omega arith })) (λ v l. g v (record { low = l .low; high = let h = l .high in omega arith })),
+      f (suc n) (record { low = omega arith; high = omega arith }),
+      g (suc n) (record { low = omega arith; high = omega arith }),
+    )
 
 distinct-end : (ls : List ℕ) (l : ℕ) → Distinct ls → All (λ k. variable k ≢ variable l) ls → Distinct (ls ++ (l ∷ []))
 distinct-end [] l d h = (tt, tt)
@@ -118,8 +121,8 @@ module _ (n m : ℕ) (Sheet : ℕ → Row) (kept : ℕ → Bool) (d : ℕ) (x : 
       explains = rw sign-truth at explains;
       negations = scanned n (λ u. R p u && not (same (β p) u)) (λ u. not (truth u));
       listed = rw (scanned-same n (λ u. total cited-rows u && not (same (β p) u)) (λ u. R p u && not (same (β p) u)) (λ u. not (truth u)) (λ u. not (truth u))
-        (λ u l. ap (λ (b : Bool). b && not (same (β p) u)) (row-total u (l .high))) (λ u l. refl)) at
-        (negations-listed n (total cited-rows) (β p) (codesOf d x y) truth fits agree apart others);
+          (λ u l. ap (λ (b : Bool). b && not (same (β p) u)) (row-total u (l .high))) (λ u l. refl)) at
+          (negations-listed n (total cited-rows) (β p) (codesOf d x y) truth fits agree apart others);
       clause = refl;
       numbers = refl;
     }
