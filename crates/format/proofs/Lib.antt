@@ -1,1 +1,12 @@
+pub mod Accepted
+pub mod Bytes
+pub mod Clean
+pub mod Digits
+pub mod Packed
+pub mod Places
+pub mod Puts
 pub mod Refusing
+pub mod Rows
+pub mod Runs
+pub mod Undo
+pub mod Values

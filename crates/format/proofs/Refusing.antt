@@ -1,17 +1,47 @@
 -- CHECKS IN ORDER, and checks of two conditions.
---   none-given               no refusal: the first check does not hold, and neither does any after it
+--   accepted                 no refusal: no check holds
+--   append-some, append-none  more checks after these: they are reached only where none of these holds
 --   either-.., none-either   one of two conditions holds; neither does
 -- Assumes nothing.
 use mathlib.Core.Path.{_≡_, refl, sym, _∙_}
-use mathlib.Core.Bool.{Bool, true, false, _||_, true≢false}
-use mathlib.Core.List.{List, _∷_}
+use mathlib.Core.Bool.{Bool, true, false, _||_, _&&_, true≢false}
+use mathlib.Core.List.{List, [], _∷_, _++_}
+use lib.Dec.{ltb}
 use Prim.Native.Nat.{ℕ, suc}
 use native.Mathlib.Omega.{arith}
+use borrow.Author.Tests.{ltb-true}
+use Rattle.gf2.specs.Lists.{All}
+use Rattle.gf2.proofs.Search.{and-both}
 use Rattle.format.specs.Refusals.{Check, check, unless, refusal}
 
-pub none-given : (number : ℕ) (b : Bool) (cs : List Check) → refusal (check (suc number) b ∷ cs) ≡ 0 → (b ≡ false) × (refusal cs ≡ 0)
-none-given number true cs h = absurd (omega arith)
-none-given number false cs h = (refl, h)
+-- no check has the number 0
+abbrev pub positive : List Check → Bool
+positive [] = true
+positive (c ∷ cs) = ltb 0 (c .number) && positive cs
+
+pub accepted : (cs : List Check) → positive cs ≡ true → refusal cs ≡ 0 → All (λ c. c .fails ≡ false) cs
+accepted [] p h = tt
+accepted (c ∷ cs) p h = go (accepted cs (and-both (ltb 0 (c .number)) (positive cs) p .1)) (c .fails) refl h
+  where
+    go : (refusal cs ≡ 0 → All (λ c. c .fails ≡ false) cs) → (b : Bool) → c .fails ≡ b → unless b (c .number) (refusal cs) ≡ 0 → All (λ c. c .fails ≡ false) (c ∷ cs)
+    go rest true e f = let l = ltb-true 0 (c .number) (and-both (ltb 0 (c .number)) (positive cs) p .0) in absurd (omega arith)
+    go rest false e f = (e, rest f)
+
+pub append-some : (cs ds : List Check) (j : ℕ) → refusal cs ≡ suc j → refusal (cs ++ ds) ≡ suc j
+append-some [] ds j h = absurd (omega arith)
+append-some (c ∷ cs) ds j h = go (append-some cs ds j) (c .fails) h
+  where
+    go : (refusal cs ≡ suc j → refusal (cs ++ ds) ≡ suc j) → (b : Bool) → unless b (c .number) (refusal cs) ≡ suc j → unless b (c .number) (refusal (cs ++ ds)) ≡ suc j
+    go more true e = e
+    go more false e = more e
+
+pub append-none : (cs ds : List Check) → positive cs ≡ true → refusal cs ≡ 0 → refusal (cs ++ ds) ≡ refusal ds
+append-none [] ds p h = refl
+append-none (c ∷ cs) ds p h = go (append-none cs ds (and-both (ltb 0 (c .number)) (positive cs) p .1)) (c .fails) h
+  where
+    go : (refusal cs ≡ 0 → refusal (cs ++ ds) ≡ refusal ds) → (b : Bool) → unless b (c .number) (refusal cs) ≡ 0 → unless b (c .number) (refusal (cs ++ ds)) ≡ refusal ds
+    go more true e = let l = ltb-true 0 (c .number) (and-both (ltb 0 (c .number)) (positive cs) p .0) in absurd (omega arith)
+    go more false e = more e
 
 pub either-first : (a b : Bool) → a ≡ true → (a || b) ≡ true
 either-first a b e = rw e

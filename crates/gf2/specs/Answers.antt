@@ -5,8 +5,9 @@
 --   Position                          the constraints last opened and the surviving assumptions, in the order in which they were taken
 --   start, assumed, withdrawn         nothing taken; one literal more; back to a depth
 --   Solves, Implied, Conflict         the assignment satisfies all; every such one has l; none has
---   AnswersOpen, AnswersAssume        what open and assume answer
+--   AnswersOpen, AnswersAssume        what open and assume answer; moved: the position after an assume
 --   Explains, AnswersExplain          the set of kept rows and assumptions whose sum is l; what explain answers
+--   Explanation                       that answer, with demand 3's last sentence: the one set, and no smaller one will do
 --   Unexplained                       refusal 10
 --   Fresh, Reached                    a position that calls lead to
 -- Assumes nothing.
@@ -104,6 +105,12 @@ AnswersAssume p l held = Implied p l
 AnswersAssume p l conflict = Conflict p l
 AnswersAssume p l (implied list) = (Implied p l → ⊥) × (Conflict p l → ⊥) × Listed (New p l) list
 
+-- the position after it: only a literal that was taken changes it
+abbrev pub moved : Position → ℕ → AssumeAnswer → Position
+moved p l held = p
+moved p l conflict = p
+moved p l (implied list) = assumed p l
+
 -- ---- explain
 
 pub record ExplainAnswer : Type 0 where
@@ -129,6 +136,13 @@ pub record AnswersExplain (p : Position) (v : ℕ) (answer : ExplainAnswer) : Ty
   pub listed : Listed (λ l. negation l ∈ cited) negations
   pub clause : answer .clause ≡ literal ∷ negations
   pub numbers : answer .numbers ≡ map (λ r. r .number) rows
+
+pub record Explanation (p : Position) (v : ℕ) (answer : ExplainAnswer) : Type 0 where
+  pub answers : AnswersExplain p v answer
+  -- no other kept rows and assumptions have that sum
+  pub only : (ps : Rows) (qs : List ℕ) → Explains p (answers .literal) ps qs → (ps ≡ answers .rows) × (qs ≡ answers .cited)
+  -- no proper part of the cited assumptions, with all the rows, implies the value
+  pub minimal : (fewer : List ℕ) → Part fewer (answers .cited) → Implied (record { n = p .n; rows = p .rows; taken = fewer }) (answers .literal) → fewer ≡ answers .cited
 
 -- v has no value, or its value was assumed
 abbrev pub Unexplained : Position → ℕ → Type 0

@@ -9,7 +9,7 @@ use mathlib.Core.List.{List, [], _∷_}
 use lib.ListN.{length}
 use Prim.Native.Nat.{ℕ, _≤_}
 use Rattle.gf2.specs.Rows.{Var, Rows}
-use Rattle.gf2.specs.Answers.{Literal, Position, start, assumed, withdrawn, OpenAnswer, unsatisfiable, opened, AnswersOpen, AssumeAnswer, held, conflict, implied, AnswersAssume, ExplainAnswer, AnswersExplain, Unexplained}
+use Rattle.gf2.specs.Answers.{Literal, Position, start, withdrawn, moved, OpenAnswer, unsatisfiable, opened, AnswersOpen, AssumeAnswer, held, conflict, implied, AnswersAssume, ExplainAnswer, AnswersExplain, Unexplained}
 
 pub data Event : Type 0 where
   opens : ℕ → Rows → OpenAnswer → Event
@@ -22,9 +22,7 @@ abbrev pub after : Option Position → Event → Option Position
 after s (opens n rows (opened count list)) = some (start n rows)
 after s (opens n rows (unsatisfiable list)) = none
 after none (assumes l answer) = none
-after (some p) (assumes l held) = some p
-after (some p) (assumes l conflict) = some p
-after (some p) (assumes l (implied list)) = some (assumed p l)
+after (some p) (assumes l answer) = some (moved p l answer)
 after none (backs d) = none
 after (some p) (backs d) = some (withdrawn p d)
 after s (explains v answer) = s

@@ -45,11 +45,11 @@ numberedRow Sheet q = record { number = suc q; row = Sheet q }
 pub numbered-end : (q : ℕ) (Sheet : ℕ → Row) → numbered (suc q) Sheet ≡ numbered q Sheet ++ (numberedRow Sheet q ∷ [])
 numbered-end q Sheet = placed-end q suc Sheet
 
-no-rows : (Sheet : ℕ → Row) → numbered 0 Sheet ≡ []
+pub no-rows : (Sheet : ℕ → Row) → numbered 0 Sheet ≡ []
 unfolding placed
 no-rows Sheet = refl
 
-chosen-none : (f : ℕ → Bool) → chosen f [] ≡ []
+pub chosen-none : (f : ℕ → Bool) → chosen f [] ≡ []
 unfolding chosen
 chosen-none f = refl
 

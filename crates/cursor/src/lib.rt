@@ -1,0 +1,130 @@
+// A cursor over the bits of a sheet. Each read gives it back moved on; so does each write.
+ghost use mathlib.Core.Path.{_≡_};
+ghost use Prim.Native.Nat.{_+_, _-_, _*_, _%_, _^_, _≤_, _<_};
+ghost use lib.ListN.{length, take, drop};
+ghost use Rattle.format.specs.Bits.{bitsOf, bitsN, valueOf, putAt};
+
+// How many bits stand before it.
+pub struct Cursor {
+    pub at: usize,
+}
+
+// A field that was read, and the cursor behind it.
+pub struct Field {
+    pub value: u64,
+    pub next: Cursor,
+}
+
+impl Cursor {
+    // The next count bits of s, byte by byte: for the last nine bytes, which hold no window of 64 bits at every bit.
+    fn field_bytes(self, s: &[u8], count: usize) -> Field
+        requires { ⌜ (count ≤ 64) × (self .at + count ≤ 8 * length (now s)) × (self .at < 2 ^ 32) ⌝ }
+        ensures { λ r. ⌜ (r .value ≡ valueOf (take count (drop (self .at) (bitsOf (now (s .entry)))))) × (r .next .at ≡ self .at + count) ⌝ }
+    {
+        let at = self.at;
+        let mut value: u64 = 0;
+        let mut done: usize = 0;
+        while done < count {
+            let i = at + done;
+            let q = i / 8;
+            let off = i % 8;
+            let t = bits::shorter(8 - off, count - done);
+            let p = bits::piece(s[q], off, t);
+            value = (value << t) | p;
+            done += t;
+        }
+        Field {
+            value,
+            next: Cursor { at: at + count },
+        }
+    }
+
+    // The next count bits of s.
+    pub fn field(self, s: &[u8], count: usize) -> Field
+        requires { ⌜ (count ≤ 64) × (self .at + count ≤ 8 * length (now s)) × (self .at < 2 ^ 32) ⌝ }
+        ensures { λ r. ⌜ (r .value ≡ valueOf (take count (drop (self .at) (bitsOf (now (s .entry)))))) × (r .next .at ≡ self .at + count) ⌝ }
+    {
+        let at = self.at;
+        let q = at / 8;
+        if q + 9 <= s.len() {
+            let w = bits::window(s, q, at % 8);
+            let value = bits::lowered(w, 64 - count);
+            Field {
+                value,
+                next: Cursor { at: at + count },
+            }
+        } else {
+            self.field_bytes(s, count)
+        }
+    }
+
+    // The next count bits of s at the top of a word, fewer than 64 or at the end of s.
+    fn top_part(self, s: &[u8], count: usize) -> Field
+        requires { ⌜ (count ≤ 64) × (self .at + count ≤ 8 * length (now s)) × (self .at < 2 ^ 32) ⌝ }
+        ensures { λ r. ⌜ (r .value ≡ valueOf (take count (drop (self .at) (bitsOf (now (s .entry))))) * 2 ^ (64 - count) % 2 ^ 64) × (r .next .at ≡ self .at + count) ⌝ }
+    {
+        if count == 0 {
+            return Field {
+                value: 0,
+                next: self,
+            };
+        }
+        let f = self.field(s, count);
+        let value = bits::raised(f.value, 64 - count);
+        let next = f.next;
+        Field { value, next }
+    }
+
+    // The next count bits of s at the top of a word.
+    pub fn top(self, s: &[u8], count: usize) -> Field
+        requires { ⌜ (count ≤ 64) × (self .at + count ≤ 8 * length (now s)) × (self .at < 2 ^ 32) ⌝ }
+        ensures { λ r. ⌜ (r .value ≡ valueOf (take count (drop (self .at) (bitsOf (now (s .entry))))) * 2 ^ (64 - count) % 2 ^ 64) × (r .next .at ≡ self .at + count) ⌝ }
+    {
+        let at = self.at;
+        let q = at / 8;
+        if count == 64 && q + 9 <= s.len() {
+            let value = bits::window(s, q, at % 8);
+            Field {
+                value,
+                next: Cursor { at: at + 64 },
+            }
+        } else {
+            self.top_part(s, count)
+        }
+    }
+
+    // Puts the count low bits of value at the cursor.
+    pub fn put(self, s: &mut [u8], value: u64, count: usize) -> Cursor
+        requires { ⌜ (count ≤ 64) × (self .at + count ≤ 8 * length (now s)) × (self .at < 2 ^ 32) ⌝ }
+        ensures { λ r. ⌜ (bitsOf (now (s .exit)) ≡ putAt (bitsOf (now (s .entry))) (self .at) (bitsN count value)) × (r .at ≡ self .at + count) ⌝ }
+    {
+        let at = self.at;
+        let mut done: usize = 0;
+        while done < count {
+            let i = at + done;
+            let q = i / 8;
+            let off = i % 8;
+            let t = bits::shorter(8 - off, count - done);
+            let p = (value >> (count - done - t)) & ((1 << t) - 1);
+            let x = bits::patched(s[q], p, off, t);
+            s[q] = x;
+            done += t;
+        }
+        Cursor { at: at + count }
+    }
+
+    // Puts the 64 bits of value at the cursor.
+    pub fn put_64(self, s: &mut [u8], value: u64) -> Cursor
+        requires { ⌜ (self .at + 64 ≤ 8 * length (now s)) × (self .at < 2 ^ 32) ⌝ }
+        ensures { λ r. ⌜ (bitsOf (now (s .exit)) ≡ putAt (bitsOf (now (s .entry))) (self .at) (bitsN 64 value)) × (r .at ≡ self .at + 64) ⌝ }
+    {
+        let at = self.at;
+        let first = at / 8;
+        if first + 9 <= s.len() {
+            bits::put_window(s, first, at % 8, value);
+            Cursor { at: at + 64 }
+        } else {
+            self.put(s, value, 64)
+        }
+    }
+}

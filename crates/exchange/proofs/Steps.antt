@@ -1,0 +1,222 @@
+-- WHAT A LITERAL DOES TO A STATE OF THE MODULE.
+--   partner-high, beq-same, beq-other    facts that the code's tests give
+--   refused-still                        a literal that is refused changes nothing
+--   known-bit, truth-bit                 the value of a variable, as it is read
+--   FreeAt                               a state of the module in which v has no value and is not basic
+--   step-made                            the answer to a literal is the definitions', and the state afterwards is one of the module
+-- Assumes nothing.
+use mathlib.Core.Path.{_≡_, refl, sym, ap, ap₂, _∙_}
+use mathlib.Core.List.{List}
+use mathlib.Core.Bool.{Bool, true, false, Bool·beq, _&&_, true≢false, false≢true}
+use mathlib.Core.Logic.{_⊎_, _≢_}
+use Prim.Native.Nat.{ℕ, zero, suc, _+_, _-_, _/_, _%_, _<_, _≤_}
+use native.Mathlib.Omega.{arith}
+use lib.ListN.{length, getD}
+use lib.Dec.{eqb}
+use Rattle.gf2.specs.Field.{_⊕_}
+use Rattle.gf2.specs.Rows.{Var, Row}
+use Rattle.gf2.proofs.Sums.{same-refl, same-ne, bool-dec}
+use Rattle.linear.specs.State.{with-at, with-bool}
+use Rattle.linear.specs.Systems.{Implied, Conflict, And, Literals, NonBasic, pivot, repoint}
+use Rattle.linear.proofs.Assume.{clash}
+use Rattle.linear.proofs.Assuming.{given, conflicts, partner, passed, exchange-made, exchange-frees, taken-more}
+use Rattle.linear.proofs.Exchange.{at-or-not}
+use Rattle.words.specs.Words.{bitAt}
+use Rattle.words.proofs.Bits.{bit-same}
+use Rattle.tableau.specs.Buffer.{entryAt, Recorded}
+use Rattle.tableau.specs.Layout.{knownAt, truthAt}
+use Rattle.tableau.specs.View.{LitsRead, MadeAt}
+use Rattle.tableau.proofs.Reading.{rows-stay, entry-stay, lits-stay, bit-of}
+use Rattle.settle.specs.Values.{lacks, Restarted}
+use Rattle.settle.proofs.Restarts.{restart-made}
+use Rattle.exchange.specs.Steps.{Partner, Freed, free, stuck, moved, Stepped, held, conflict, refused, taken, Outcome, was-held, was-conflict, was-taken}
+use Rattle.exchange.proofs.Exchanges.{exchange-rows, exchange-rest}
+
+pub partner-high : (ws : List ℕ) (r p x : ℕ) → Partner ws r p x → x ≤ 512
+partner-high ws r p zero q = omega arith
+partner-high ws r p (suc i) q = q .some i refl .0
+
+-- `==` of two bools
+pub beq-same : (a b : Bool) → Bool·beq a b ≡ true → a ≡ b
+beq-same true true h = refl
+beq-same true false h = sym h
+beq-same false true h = h
+beq-same false false h = refl
+
+pub beq-other : (a b : Bool) → Bool·beq a b ≡ false → a ≢ b
+beq-other true true h e = true≢false h
+beq-other true false h e = true≢false e
+beq-other false true h e = false≢true e
+beq-other false false h e = true≢false h
+
+pub refused-still : (k d code : ℕ) (ws w : List ℕ) → bitAt ws knownAt (code / 2 - 1) ≡ false → Freed k (code / 2) ws w false → Stepped k d code ws w 12
+refused-still k d code ws w e (stuck p l f q) = refused e (stuck p l f q)
+
+-- ---- a variable without a value is made non-basic
+pub record FreeAt (ws : List ℕ) (n m : ℕ) (Sheet : ℕ → Row) (kept : ℕ → Bool) (d : ℕ) (x : ℕ → ℕ) (y : ℕ → Bool) (k v : ℕ) : Type 0 where
+  pub at : MadeAt ws n m Sheet kept d x y k
+  pub nonbasic : NonBasic k (at .β) v
+  pub unknown : at .known v ≡ false
+
+module _ (n m : ℕ) (Sheet : ℕ → Row) (kept : ℕ → Bool) (d : ℕ) (x : ℕ → ℕ) (y : ℕ → Bool) (k : ℕ) (ws : List ℕ) (s : MadeAt ws n m Sheet kept d x y k) where
+  pub known-bit : (v : ℕ) → Var n v → bitAt ws knownAt (v - 1) ≡ s .known v
+  known-bit v mv = let a = mv .low in let b = mv .high in let c = s .vars in s .values .knows (v - 1) (omega arith) ∙ ap (s .known) (bit-of v (mv .low))
+
+  pub truth-bit : (v : ℕ) → Var n v → bitAt ws truthAt (v - 1) ≡ s .truth v
+  truth-bit v mv = let a = mv .low in let b = mv .high in let c = s .vars in s .values .trues (v - 1) (omega arith) ∙ ap (s .truth) (bit-of v (mv .low))
+
+  -- bit i of row p has no value
+  lacks-is : (p : ℕ) → p < k → (i : ℕ) → i < 512 → lacks ws p i ≡ s .R p (suc i) ⊕ (s .R p (suc i) && s .known (suc i))
+  unfolding lacks
+  lacks-is p l i h = ap₂ (λ (a b : Bool). a ⊕ (a && b)) (s .rows .coefs p l i h) (s .values .knows i h)
+
+  lacks-parts : (a b : Bool) → a ⊕ (a && b) ≡ true → (a ≡ true) × (b ≡ false)
+  lacks-parts true true h = (refl, sym h)
+  lacks-parts true false h = (refl, refl)
+  lacks-parts false b h = (h, absurd (false≢true h))
+
+  module _ (v : ℕ) (mv : Var n v) (un : s .known v ≡ false) where
+    freed : (w : List ℕ) (ok : Bool) → length w ≡ length ws → Freed k v ws w ok → (ok ≡ true) × FreeAt w n m Sheet kept d x y k v
+    freed w ok len (free f) = (refl, record { at = s; nonbasic = λ r l e. f .before r l (s .rows .basic r l ∙ e); unknown = un })
+    freed w ok len (stuck p l f q) = absurd (none q)
+      where
+        here : s .β p ≡ v
+        here = sym (s .rows .basic p l) ∙ f .here l
+
+        none : Partner ws p (v - 1) 0 → ⊥
+        none q =
+            let o = partner n m Sheet kept d x y k (s .R) (s .β) (s .S) (s .known) (s .truth) (s .made) p l (ap (s .known) here ∙ un) in
+            let lo = o .1 .low in
+            let hi = o .1 .high in
+            let c = s .vars in
+            let e = bit-of (o .0) lo in
+            let i : o .0 - 1 < 512 = omega arith in
+            clash (lacks ws p (o .0 - 1))
+            (lacks-is p l (o .0 - 1) i ∙ rw (ap (s .R p) e ∙ o .2, ap (s .known) e ∙ o .4))
+            (q .none refl (o .0 - 1) i (λ z. o .3 (sym e ∙ ap suc z ∙ bit-of v (mv .low) ∙ sym here)))
+    freed w ok len (moved p u w₁ l f q pos ex) = (refl, go (u - 1) (bit-of u pos))
+      where
+        here : s .β p ≡ v
+        here = sym (s .rows .basic p l) ∙ f .here l
+
+        go : (i : ℕ) → suc i ≡ u → FreeAt w n m Sheet kept d x y k v
+        go i e = record { at = after; nonbasic = rw here at (exchange-frees n m Sheet kept d x y k (s .R) (s .β) (s .S) (s .known) (s .truth) (s .made) p u l mu ru du ku kp); unknown = un }
+          where
+            o : (i < 512) × (i ≢ v - 1) × (lacks ws p i ≡ true)
+            o = q .some i (sym e)
+
+            parts : (s .R p (suc i) ≡ true) × (s .known (suc i) ≡ false)
+            parts = lacks-parts _ _ (sym (lacks-is p l i (o .0)) ∙ o .2)
+
+            ru : s .R p u ≡ true
+            ru = ap (s .R p) (sym e) ∙ parts .0
+
+            ku : s .known u ≡ false
+            ku = ap (s .known) (sym e) ∙ parts .1
+
+            kp : s .known (s .β p) ≡ false
+            kp = ap (s .known) here ∙ un
+
+            du : u ≢ s .β p
+            du z = o .1 (same-bit (z ∙ here))
+              where
+                same-bit : u ≡ v → i ≡ v - 1
+                same-bit z = omega arith
+
+            mu : Var n u
+            mu = record { low = pos; high = inside (bool-dec (s .R p u)) }
+              where
+                inside : (s .R p u ≡ true) ⊎ (s .R p u ≡ false) → u ≤ n
+                inside h = le u n (λ g. clash (s .R p u) ru (s .rows .clean p l u g))
+                  where
+                    le : (a b : ℕ) → (b < a → ⊥) → a ≤ b
+                    le a b g = omega (arith, g)
+
+            upper : u ≤ 512
+            upper = let h = o .0 in omega arith
+
+            rest : (j : ℕ) → knownAt ≤ j → getD w j 0 ≡ getD ws j 0
+            rest = exchange-rest n k ws (s .R) (s .β) (s .S) p u (s .few) l pos upper (s .rows) w (s .room) ex
+
+            after : MadeAt w n m Sheet kept d x y k
+            after =
+                record {
+                  R = pivot (s .R) p u;
+                  β = repoint (s .β) p u;
+                  S = passed (s .S) (s .R) p u;
+                  known = s .known;
+                  truth = s .truth;
+                  vars = s .vars;
+                  few = s .few;
+                  room = let h = s .room in omega arith;
+                  rows = exchange-rows n k ws (s .R) (s .β) (s .S) p u (s .few) l pos upper (s .rows) w (s .room) ex;
+                  values = record {
+                    knows = λ j h. bit-same ws w knownAt knownAt j (rest (knownAt + j / 64) (omega arith)) ∙ s .values .knows j h;
+                    trues = λ j h. bit-same ws w truthAt truthAt j (rest (truthAt + j / 64) (omega arith)) ∙ s .values .trues j h;
+                  };
+                  lits = lits-stay d ws w x y (λ j h. entry-stay ws w (λ i g. rest i (omega arith)) j) (s .lits);
+                  made = exchange-made n m Sheet kept d x y k (s .R) (s .β) (s .S) (s .known) (s .truth) (s .made) p u l mu ru du ku kp;
+                }
+
+-- ---- a literal is taken
+abbrev varOf : ℕ → ℕ
+varOf code = code / 2
+
+abbrev valOf : ℕ → Bool
+valOf code = eqb (code % 2) 0
+
+module _ (n m : ℕ) (Sheet : ℕ → Row) (kept : ℕ → Bool) (d : ℕ) (x : ℕ → ℕ) (y : ℕ → Bool) (k : ℕ) (ws : List ℕ) (code : ℕ) where
+  at-here : with-at x d (varOf code) d ≡ varOf code
+  unfolding with-at
+  at-here = rw (same-refl d)
+
+  at-below : (j : ℕ) → j < d → with-at x d (varOf code) j ≡ x j
+  unfolding with-at
+  at-below j l = rw (same-ne j d (λ (z : j ≡ d). absurd (omega arith)))
+
+  bool-here : with-bool y d (valOf code) d ≡ valOf code
+  unfolding with-bool
+  bool-here = rw (same-refl d)
+
+  bool-below : (j : ℕ) → j < d → with-bool y d (valOf code) j ≡ y j
+  unfolding with-bool
+  bool-below j l = rw (same-ne j d (λ (z : j ≡ d). absurd (omega arith)))
+
+  take-made : Var n (varOf code) → (r : FreeAt ws n m Sheet kept d x y k (varOf code)) → (v w : List ℕ) → Recorded d code ws v → length w ≡ length ws → Restarted k (suc d) v w
+      → MadeAt w n m Sheet kept (suc d) (with-at x d (varOf code)) (with-bool y d (valOf code)) k
+  take-made mv r v w rc len re =
+      restart-made n m Sheet kept (suc d) (with-at x d (varOf code)) (with-bool y d (valOf code)) k (s .R) (s .β) (s .S) v w (s .vars) (s .few) (let h = s .room in let e = rc .len in omega arith) (len ∙ sym (rc .len)) (s .made .built)
+      (taken-more n m Sheet kept d x y k (s .R) (s .β) (s .S) (s .known) (s .truth) (s .made) (varOf code) mv (r .nonbasic) (r .unknown) (with-at x d (varOf code)) at-below at-here)
+      (rows-stay n k ws v (s .R) (s .β) (s .S) (s .few) (λ i h. rc .rest i (omega arith)) (s .rows))
+      lits re
+    where
+      s : MadeAt ws n m Sheet kept d x y k
+      s = r .at
+
+      lits : LitsRead (suc d) v (with-at x d (varOf code)) (with-bool y d (valOf code))
+      lits = record {
+        var = at-or-not (suc d) d (λ j. entryAt v j / 2 ≡ with-at x d (varOf code) j) (ap (λ (z : ℕ). z / 2) (rc .here) ∙ sym at-here)
+            (λ j l e. ap (λ (z : ℕ). z / 2) (rc .others j e) ∙ s .lits .var j (omega arith) ∙ sym (at-below j (omega arith)));
+        val = at-or-not (suc d) d (λ j. eqb (entryAt v j % 2) 0 ≡ with-bool y d (valOf code) j) (ap (λ (z : ℕ). eqb (z % 2) 0) (rc .here) ∙ sym bool-here)
+            (λ j l e. ap (λ (z : ℕ). eqb (z % 2) 0) (rc .others j e) ∙ s .lits .val j (omega arith) ∙ sym (bool-below j (omega arith)));
+      }
+
+-- ---- the answer to a literal
+module _ (n m : ℕ) (Sheet : ℕ → Row) (kept : ℕ → Bool) (d : ℕ) (x : ℕ → ℕ) (y : ℕ → Bool) (k : ℕ) (ws : List ℕ) (code : ℕ) (mv : Var n (varOf code)) (s : MadeAt ws n m Sheet kept d x y k) where
+  facts : ((known : s .known (varOf code) ≡ true) → s .truth (varOf code) ≡ valOf code → Implied n m Sheet (Literals d x y) (varOf code) (valOf code))
+      × ((known : s .known (varOf code) ≡ true) → s .truth (varOf code) ≢ valOf code → Conflict n m Sheet (And (Literals d x y) (varOf code) (valOf code)))
+      × ((unknown : s .known (varOf code) ≡ false) → Implied n m Sheet (Literals d x y) (varOf code) (valOf code) → ⊥)
+      × ((unknown : s .known (varOf code) ≡ false) → Conflict n m Sheet (And (Literals d x y) (varOf code) (valOf code)) → ⊥)
+  facts =
+      let g = given n m Sheet kept d x y k (s .R) (s .β) (s .S) (s .known) (s .truth) (s .made) (varOf code) (valOf code) mv in
+      let c = conflicts n m Sheet kept d x y k (s .R) (s .β) (s .S) (s .known) (s .truth) (s .made) (varOf code) (valOf code) mv in
+      (λ e f. g .0 (e, f), λ e f. c .0 (e, f), λ e i. clash _ (g .1 i .0) e, λ e i. clash _ (c .1 i .0) e)
+
+  pub step-made : (w : List ℕ) (ans : ℕ) → length w ≡ length ws → Stepped k d code ws w ans → Outcome n m Sheet kept d x y k (varOf code) (valOf code) w ans
+  step-made w ans len (held e f) = was-held (facts .0 (sym (known-bit n m Sheet kept d x y k ws s (varOf code) mv) ∙ e) (sym (truth-bit n m Sheet kept d x y k ws s (varOf code) mv) ∙ f)) s
+  step-made w ans len (conflict e f) = was-conflict (facts .1 (sym (known-bit n m Sheet kept d x y k ws s (varOf code) mv) ∙ e) (λ z. f (truth-bit n m Sheet kept d x y k ws s (varOf code) mv ∙ z))) s
+  step-made w ans len (refused e f) = absurd (false≢true (freed n m Sheet kept d x y k ws s (varOf code) mv (sym (known-bit n m Sheet kept d x y k ws s (varOf code) mv) ∙ e) ws false refl f .0))
+  step-made w ans len (taken u v w₁ e f lu rc re) =
+      let un = sym (known-bit n m Sheet kept d x y k ws s (varOf code) mv) ∙ e in
+      let r = freed n m Sheet kept d x y k ws s (varOf code) mv un u true lu f .1 in
+      was-taken (facts .2 un) (facts .3 un) (take-made n m Sheet kept d x y k u code mv r v _ rc (len ∙ sym lu) re)

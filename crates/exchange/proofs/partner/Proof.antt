@@ -1,0 +1,141 @@
+-- `exchange::partner` meets its contract.
+-- Assumes nothing.
+use mathlib.Core.Bool.{false}
+use mathlib.Core.Logic.{_≢_, ⊎-elim}
+use mathlib.Core.Path.{_≡_, refl}
+use Prim.Native.Nat.{ℕ, _+_, _*_, _≤_, _<_, _-_}
+use native.Mathlib.Omega.{arith}
+use borrow.Author.Count.{below-more}
+use borrow.Author.Needs.{needs}
+use denote.Ref.{now}
+use Rattle.settle.specs.Values.{lacks}
+use Rattle.settle.proofs.Testing.{open-yes, open-no}
+use Rattle.exchange.proofs.partner.Statement.{statement}
+use Rattle.exchange.proofs.partner.Tie as tie
+
+abbrev Inv-loop : tie.InvT-loop
+Inv-loop work r v a found₀ w x y b₀ found b = (b ≤ 64) × (found ≡ 0) × ((i : ℕ) → i < w * 64 + b → i ≢ v - 1 → lacks work r i ≡ false)
+
+abbrev μ-loop : tie.MeasureT-loop
+μ-loop work r v a found₀ w x y b₀ found b = 64 - b
+
+abbrev Inv-scan : tie.InvT-scan
+Inv-scan work r v a found₀ w₀ found w = (w ≤ 8) × (found ≡ 0) × ((i : ℕ) → i < w * 64 → i ≢ v - 1 → lacks work r i ≡ false)
+
+abbrev μ-scan : tie.MeasureT-scan
+μ-scan work r v a found₀ w₀ found w = 8 - w
+
+mul-a : tie.Need-mul-a Inv-loop μ-loop Inv-scan μ-scan
+mul-a c = search needs
+
+scan-holds : tie.Need-scan-holds Inv-loop μ-loop Inv-scan μ-scan
+scan-holds c = (omega arith, refl, λ i h. absurd (omega arith))
+
+add-x : tie.Need-add-x Inv-loop μ-loop Inv-scan μ-scan
+add-x c = search needs
+
+mul-x : tie.Need-mul-x Inv-loop μ-loop Inv-scan μ-scan
+mul-x c = search needs
+
+shared-slice-read-x : tie.Need-shared-slice-read-x Inv-loop μ-loop Inv-scan μ-scan
+shared-slice-read-x c = search needs
+
+add-y : tie.Need-add-y Inv-loop μ-loop Inv-scan μ-scan
+add-y c = search needs
+
+mul-y : tie.Need-mul-y Inv-loop μ-loop Inv-scan μ-scan
+mul-y c = search needs
+
+shared-slice-read-y : tie.Need-shared-slice-read-y Inv-loop μ-loop Inv-scan μ-scan
+shared-slice-read-y c = search needs
+
+loop-holds : tie.Need-loop-holds Inv-loop μ-loop Inv-scan μ-scan
+loop-holds c = let s = c .before .before .before .scan in
+    (omega arith, s .inv .1, λ i h. s .inv .2 i (omega arith))
+
+mul-u : tie.Need-mul-u Inv-loop μ-loop Inv-scan μ-scan
+mul-u c = search needs
+
+add-u : tie.Need-add-u Inv-loop μ-loop Inv-scan μ-scan
+add-u c = search needs
+
+add-u-2 : tie.Need-add-u-2 Inv-loop μ-loop Inv-scan μ-scan
+add-u-2 c = search needs
+
+sub-if2 : tie.Need-sub-if2 Inv-loop μ-loop Inv-scan μ-scan
+sub-if2 c = search needs
+
+shr-if2 : tie.Need-shr-if2 Inv-loop μ-loop Inv-scan μ-scan
+shr-if2 c = search needs
+
+add-b : tie.Need-add-b Inv-loop μ-loop Inv-scan μ-scan
+add-b c = search needs
+
+loop-less : tie.Need-loop-less Inv-loop μ-loop Inv-scan μ-scan
+loop-less c = search needs
+
+loop-again : tie.Need-loop-again Inv-loop μ-loop Inv-scan μ-scan
+loop-again c = let l = c .before .before .loop in
+    let s = c .before .before .before .before .before .before .scan in
+    let a = c .before .before .before .before .before .before .before .args in (
+      omega arith,
+      l .inv .1,
+      λ i h. below-more (λ j. j ≢ a .v - 1 → lacks (now (a .work)) (a .r) j ≡ false) (s .w * 64 + l .b) (l .inv .2)
+          (λ ne. ⊎-elim (λ z. open-no (now (a .work)) (a .r) (s .w) (l .b) (omega arith) (λ h. omega (arith, h, z .1 .left))) (λ z. absurd (ne (omega (arith, z .left)))) (c .if1 .came)) i (omega arith),
+    )
+
+add-w : tie.Need-add-w Inv-loop μ-loop Inv-scan μ-scan
+add-w c = search needs
+
+scan-less : tie.Need-scan-less Inv-loop μ-loop Inv-scan μ-scan
+scan-less c = search needs
+
+scan-again : tie.Need-scan-again Inv-loop μ-loop Inv-scan μ-scan
+scan-again c = let l = c .before .loop in
+    (omega arith, l .inv .1, λ i h. l .inv .2 i (omega arith))
+
+returns : tie.Need-returns Inv-loop μ-loop Inv-scan μ-scan
+returns c = let s = c .before .scan in
+    record { none = λ e i h. s .inv .2 i (omega arith); some = λ i e. absurd (omega arith); least = λ i h. absurd (omega arith) }
+
+returns-2 : tie.Need-returns-2 Inv-loop μ-loop Inv-scan μ-scan
+returns-2 c = let l = c .before .before .before .loop in
+    let s = c .before .before .before .before .before .before .before .scan in
+    let a = c .before .before .before .before .before .before .before .before .args in
+    let ne : s .w * 64 + l .b ≢ a .v - 1 = λ z. c .before .if1 .taken (omega arith) in
+    record {
+      none = λ e. absurd (omega arith);
+      some = λ i e. let q : i ≡ s .w * 64 + l .b = omega arith in rw q (omega arith, ne, open-yes (now (a .work)) (a .r) (s .w) (l .b) (omega arith) (omega (arith, c .if2 .taken)));
+      least = λ i h. l .inv .2 i (omega arith);
+    }
+
+pub partner-spec : {M : Type 1} → statement M
+partner-spec =
+    tie.close
+    (tie.spec
+    Inv-loop
+    μ-loop
+    Inv-scan
+    μ-scan
+    mul-a
+    scan-holds
+    add-x
+    mul-x
+    shared-slice-read-x
+    add-y
+    mul-y
+    shared-slice-read-y
+    loop-holds
+    mul-u
+    add-u
+    add-u-2
+    sub-if2
+    shr-if2
+    add-b
+    loop-less
+    loop-again
+    add-w
+    scan-less
+    scan-again
+    returns
+    returns-2)

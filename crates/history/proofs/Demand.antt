@@ -1,0 +1,156 @@
+-- DEMAND 3, from the promises alone: after any calls, each answer but a refusal is what the definitions give for what is open, and the state matches what is then open.
+--   refused-or       a refusal, or none
+--   open-step ..     one call
+--   demand           any list of calls
+-- Assumes nothing.
+use mathlib.Core.Path.{_≡_, refl, sym, ap, _∙_, subst}
+use mathlib.Core.Bool.{Bool, true, false, not, _||_, true≢false}
+use mathlib.Core.Logic.{_⊎_, inl, inr}
+use mathlib.Core.Option.{Option, none, some}
+use mathlib.Core.List.{List, [], _∷_, _++_}
+use lib.ListN.{length, take}
+use lib.Dec.{eqb, ltb}
+use Prim.Native.Nat.{ℕ, zero, suc, _+_, _*_, _≤_}
+use native.Mathlib.Omega.{arith}
+use borrow.Author.Tests.{ltb-false, ne-eqb}
+use Rattle.gf2.specs.Rows.{Var}
+use Rattle.gf2.specs.Answers.{Literal, Position, opened, unsatisfiable, OpenAnswer, AnswersOpen, AssumeAnswer, held, conflict, implied, AnswersAssume, moved, ExplainAnswer, AnswersExplain, Explanation, Unexplained, withdrawn}
+use Rattle.gf2.specs.History.{Event, opens, assumes, backs, explains, refused, after, Right, Runs, at-end}
+use Rattle.gf2.proofs.Literals.{of-range}
+use Rattle.format.specs.Refusals.{refusal}
+use Rattle.format.specs.Sheet.{nOf, sheetRows}
+use Rattle.format.proofs.Refusing.{accepted, none-either}
+use Rattle.linear.proofs.Joined.{codes-length}
+use Rattle.judge.specs.declared.Header.{Header}
+use Rattle.judge.specs.Checks.{closed, assumeChecks, backChecks, explainChecks}
+use Rattle.judge.proofs.Closed.{closed-fit}
+use Rattle.parity.specs.declared.Opening.{Opening}
+use Rattle.parity.specs.declared.Opening.the-variants.{OpenRefused, Unsatisfiable, Opened}
+use Rattle.parity.specs.declared.Assuming.{Assuming}
+use Rattle.parity.specs.declared.Assuming.the-variants.{AssumeRefused, Held, Conflict, Taken}
+use Rattle.parity.specs.declared.Explaining.{Explaining}
+use Rattle.parity.specs.declared.Explaining.the-variants.{ExplainRefused, Explained}
+use Rattle.parity.specs.Promises.{Stands, nothingOpen, OpenPromise, OpenDone, openChecks, AssumePromise, AssumeRight, BackPromise, ExplainPromise, ExplainRight}
+use Rattle.history.specs.Calls.{Called, opening, assuming, backing, explaining, openEvent, assumeEvent, backEvent, explainEvent, event, Calls, done, then, events, Matches}
+
+-- ---- what is needed of answers and checks
+pub refused-or : (r : ℕ) → ((c : ℕ) × (r ≡ suc c)) ⊎ (r ≡ 0)
+refused-or zero = inr refl
+refused-or (suc c) = inl (c, refl)
+
+pub some-one : {A : Type 0} (x y : A) → some x ≡ some y → x ≡ y
+some-one {A = A} x y e = ap (inside x) e
+  where
+    inside : A → Option A → A
+    inside d none = d
+    inside d (some z) = z
+
+pub none-some : {A : Type 0} (x : A) → none ≡ some x → ⊥
+none-some {A = A} x e = true≢false (sym (ap empty e))
+  where
+    empty : Option A → Bool
+    empty none = false
+    empty (some z) = true
+
+literal-of : (h : Header) (words room code : ℕ) → refusal (assumeChecks h words room code) ≡ 0 → Literal (h .n) code
+literal-of h words room code e =
+    let f = none-either (ltb code 2) (ltb (2 * h .n + 1) code) (accepted (assumeChecks h words room code) refl e .1 .1 .1 .0) in
+    let lo = ltb-false code 2 (f .0) in
+    let hi = ltb-false (2 * h .n + 1) code (f .1) in
+    of-range (h .n) code lo (omega arith)
+
+variable-of : (h : Header) (words codes numbers v : ℕ) → refusal (explainChecks h words codes numbers v) ≡ 0 → Var (h .n) v
+variable-of h words codes numbers v e =
+    let f = none-either (ltb v 1) (ltb (h .n) v) (accepted (explainChecks h words codes numbers v) refl e .1 .1 .1 .0) in
+    record { low = ltb-false v 1 (f .0); high = ltb-false (h .n) v (f .1) }
+
+depth-of : (h : Header) (words depth : ℕ) → refusal (backChecks h words depth) ≡ 0 → depth ≤ h .depth
+depth-of h words depth e = ltb-false (h .depth) depth (accepted (backChecks h words depth) refl e .1 .1 .0)
+
+-- ---- open
+open-step : (s₀ : Option Position) (h : Header) (work s store literals rows store′ literals′ rows′ : List ℕ) (answer : Opening) (h′ : Header) (work′ : List ℕ) → Matches h work s₀
+    → OpenPromise h s store work literals rows h′ answer store′ work′ literals′ rows′
+    → Right s₀ (openEvent s answer (h′ .kept) literals′ rows′) × Matches h′ work′ (after s₀ (openEvent s answer (h′ .kept) literals′ rows′))
+open-step s₀ h work s store literals rows store′ literals′ rows′ answer h′ work′ m p = go (refused-or (refusal (openChecks s (length store) (length work) (length literals) (length rows))))
+  where
+    opened-step : (answer : Opening) → OpenDone s store work literals rows h′ answer store′ work′ literals′ rows′
+        → Right s₀ (openEvent s answer (h′ .kept) literals′ rows′) × Matches h′ work′ (after s₀ (openEvent s answer (h′ .kept) literals′ rows′))
+    opened-step (OpenRefused c) d = absurd (d .leaves)
+    opened-step (Unsatisfiable x) d = (subst (AnswersOpen (nOf s) (sheetRows s)) (sym (some-one _ (d .said) (d .says))) (d .right), λ e. shut (d .leaves .0) e)
+      where
+        shut : h′ ≡ nothingOpen → h′ .«open» ≡ 1 → ⊥
+        shut e f = let g : h′ .«open» ≡ 0 = ap (λ (k : Header). k .«open») e in absurd (omega arith)
+    opened-step (Opened x) d = (subst (AnswersOpen (nOf s) (sheetRows s)) (sym (some-one _ (d .said) (d .says))) (d .right), d .leaves .4)
+
+    go : ((c : ℕ) × (refusal (openChecks s (length store) (length work) (length literals) (length rows)) ≡ suc c)) ⊎ (refusal (openChecks s (length store) (length work) (length literals) (length rows)) ≡ 0)
+        → Right s₀ (openEvent s answer (h′ .kept) literals′ rows′) × Matches h′ work′ (after s₀ (openEvent s answer (h′ .kept) literals′ rows′))
+    go (inl w) = let e = p .refused (w .0) (w .1) in rw (e .0) (tt, rw (e .1, e .3) m)
+    go (inr z) = opened-step answer (p .done z)
+
+-- ---- assume
+assume-step : (s₀ : Option Position) (h : Header) (work : List ℕ) (code : ℕ) (literals literals′ : List ℕ) (answer : Assuming) (h′ : Header) (work′ : List ℕ) → Matches h work s₀
+    → AssumePromise h work literals code h′ answer work′ literals′
+    → Right s₀ (assumeEvent code answer literals′) × Matches h′ work′ (after s₀ (assumeEvent code answer literals′))
+assume-step s₀ h work code literals literals′ answer h′ work′ m p = go (refused-or (refusal (assumeChecks h (length work) (length literals) code))) s₀ m
+  where
+    given : (q : Position) → Stands h work q → Literal (h .n) code → (a said : AssumeAnswer) → a ≡ said → AnswersAssume q code said → Stands h′ work′ (moved q code said)
+        → Right (some q) (assumes code a) × Matches h′ work′ (after (some q) (assumes code a))
+    given q st l a said e f g = ((rw (ap (λ (z : Position). z .n) (st .here)) l, subst (AnswersAssume q code) (sym e) f), subst (λ (z : AssumeAnswer). Stands h′ work′ (moved q code z)) (sym e) g)
+
+    right-step : (q : Position) → Stands h work q → Literal (h .n) code → (answer : Assuming) → AssumeRight q code h′ answer work′ literals′
+        → Right (some q) (assumeEvent code answer literals′) × Matches h′ work′ (after (some q) (assumeEvent code answer literals′))
+    right-step q st l (AssumeRefused c) r = absurd (none-some _ (r .says))
+    right-step q st l Held r = given q st l held (r .said) (some-one held (r .said) (r .says)) (r .right) (r .stands)
+    right-step q st l (Conflict v) r = given q st l conflict (r .said) (some-one conflict (r .said) (r .says)) (r .right) (r .stands)
+    right-step q st l (Taken x) r = given q st l (implied (take x literals′)) (r .said) (some-one (implied (take x literals′)) (r .said) (r .says)) (r .right) (r .stands)
+
+    go : ((c : ℕ) × (refusal (assumeChecks h (length work) (length literals) code) ≡ suc c)) ⊎ (refusal (assumeChecks h (length work) (length literals) code) ≡ 0) → (s : Option Position) → Matches h work s
+        → Right s (assumeEvent code answer literals′) × Matches h′ work′ (after s (assumeEvent code answer literals′))
+    go (inl w) s m = let e = p .refused (w .0) (w .1) in rw (e .0) (tt, rw (e .1, e .2) m)
+    go (inr z) none m = absurd (m (closed-fit h (accepted (assumeChecks h (length work) (length literals) code) refl z .0) .is-open))
+    go (inr z) (some q) m = right-step q m (literal-of h (length work) (length literals) code z) answer (p .right z q m)
+
+-- ---- back
+back-step : (s₀ : Option Position) (h : Header) (work : List ℕ) (depth number : ℕ) (h′ : Header) (work′ : List ℕ) → Matches h work s₀ → BackPromise h work depth number h′ work′
+    → Right s₀ (backEvent depth number) × Matches h′ work′ (after s₀ (backEvent depth number))
+back-step s₀ h work depth (suc c) h′ work′ m p = let e = p .refused c refl in (tt, rw (e .0, e .1) m)
+back-step none h work depth zero h′ work′ m p = absurd (m (closed-fit h (accepted (backChecks h (length work) depth) refl (sym (p .answer)) .0) .is-open))
+back-step (some q) h work depth zero h′ work′ m p = (deep, p .right refl q m)
+  where
+    deep : depth ≤ length (q .taken)
+    deep =
+        let e : length (q .taken) ≡ h .depth = ap (λ (z : Position). length (z .taken)) (m .here) ∙ codes-length (h .depth) (m .var) (m .val) in
+        let l = depth-of h (length work) depth (sym (p .answer)) in
+        omega arith
+
+-- ---- explain
+explain-step : (s₀ : Option Position) (h : Header) (work : List ℕ) (v : ℕ) (clause rows clause′ rows′ : List ℕ) (answer : Explaining) → Matches h work s₀
+    → ExplainPromise h work clause rows v answer clause′ rows′
+    → Right s₀ (explainEvent v answer clause′ rows′) × Matches h work (after s₀ (explainEvent v answer clause′ rows′))
+explain-step s₀ h work v clause rows clause′ rows′ answer m p = go (refused-or (refusal (explainChecks h (length work) (length clause) (length rows) v))) s₀ m
+  where
+    right-step : (q : Position) → Stands h work q → Var (h .n) v → (answer : Explaining) → ExplainRight q v answer clause′ rows′
+        → Right (some q) (explainEvent v answer clause′ rows′) × Matches h work (after (some q) (explainEvent v answer clause′ rows′))
+    right-step q st l (ExplainRefused c) r = (tt, st)
+    right-step q st l (Explained x y) r = ((rw (ap (λ (z : Position). z .n) (st .here)) l, r .0, subst (AnswersExplain q v) (sym (some-one _ (r .1 .0) (r .1 .1))) (r .1 .2 .answers)), st)
+
+    go : ((c : ℕ) × (refusal (explainChecks h (length work) (length clause) (length rows) v) ≡ suc c)) ⊎ (refusal (explainChecks h (length work) (length clause) (length rows) v) ≡ 0) → (s : Option Position) → Matches h work s
+        → Right s (explainEvent v answer clause′ rows′) × Matches h work (after s (explainEvent v answer clause′ rows′))
+    go (inl w) s m = let e = p .refused (w .0) (w .1) in rw (e .0) (tt, m)
+    go (inr z) none m = absurd (m (closed-fit h (accepted (explainChecks h (length work) (length clause) (length rows) v) refl z .0) .is-open))
+    go (inr z) (some q) m = right-step q m (variable-of h (length work) (length clause) (length rows) v z) answer (p .right z q m)
+
+-- ---- any calls
+called-step : (s : Option Position) {h h′ : Header} {work work′ : List ℕ} → Matches h work s → (c : Called h work h′ work′) → Right s (event c) × Matches h′ work′ (after s (event c))
+called-step s {h} {h′} {work} {work′} m (opening sh store literals rows store′ literals′ rows′ answer p) = open-step s h work sh store literals rows store′ literals′ rows′ answer h′ work′ m p
+called-step s {h} {h′} {work} {work′} m (assuming code literals literals′ answer p) = assume-step s h work code literals literals′ answer h′ work′ m p
+called-step s {h} {h′} {work} {work′} m (backing depth number p) = back-step s h work depth number h′ work′ m p
+called-step s {h} {h′} {work} {work′} m (explaining v clause rows clause′ rows′ answer p) = explain-step s h work v clause rows clause′ rows′ answer m p
+
+-- DEMAND 3
+pub demand : (s : Option Position) {h h′ : Header} {work work′ : List ℕ} → Matches h work s → (cs : Calls h work h′ work′) → Runs s (events cs) × Matches h′ work′ (at-end s (events cs))
+demand s m done = (tt, m)
+demand s m (then c cs) =
+    let e = called-step s m c in
+    let f = demand (after s (event c)) (e .1) cs in
+    ((e .0, f .0), f .1)

@@ -1,0 +1,1 @@
+// Nothing to run: demand 3, and that each promise determines its result.

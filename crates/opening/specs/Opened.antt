@@ -1,0 +1,77 @@
+-- WHAT OPENING DOES TO THE BUFFER (document 01, "Opening"): on every buffer, and what it means for rows that read as a sheet.
+--   Loaded q k store ws w        row q of the row store stands as row k, which has no basic variable yet and comes from row q alone
+--   Reduced k r ws w             row r has been added into row k, if that has its basic variable
+--   LowestAt ws k x              x is the lowest variable of row k, or 0 where it has none
+--   RowDone q k store ws w x     what row q does, with k rows kept so far: x is 0 nothing, 1 a contradiction, 2 one more row
+--   RowOutcome                   the same for rows that say what the first q rows of the sheet say
+--   Opens store ws q k w         the first q rows have gone in, and k of them are kept
+--   AllIn, Stopped, Answered     the answer: all m rows are in and the values are made; or row q contradicts, and stands reduced as row k
+-- Assumes nothing.
+use mathlib.Core.Path.{_≡_}
+use mathlib.Core.List.{List}
+use mathlib.Core.Logic.{_⊎_}
+use mathlib.Core.Bool.{Bool, true, false}
+use Prim.Native.Nat.{ℕ, suc, _+_, _*_, _-_, _%_, _<_, _≤_}
+use lib.ListN.{length, getD}
+use Rattle.gf2.specs.Field.{_⊕_, same}
+use Rattle.gf2.specs.Rows.{Row}
+use Rattle.linear.specs.State.{Fails}
+use Rattle.words.specs.Words.{bitAt, ownWord}
+use Rattle.tableau.specs.Layout.{rowSize, rowAt, fromAt, lastAt}
+use Rattle.tableau.specs.Buffer.{basicAt, parityAt, Added, Chain}
+use Rattle.tableau.specs.View.{BuiltAt}
+use Rattle.settle.specs.Values.{Restarted}
+use Rattle.exchange.specs.Steps.{Exchanged}
+use Rattle.opening.specs.declared.Opening.{Opening}
+use Rattle.opening.specs.declared.Opening.the-variants.{Open, Unsat}
+
+pub record Loaded (q k : ℕ) (store ws w : List ℕ) : Type 0 where
+  pub coefs : (j : ℕ) → j < 8 → getD w (rowAt k + j) 0 ≡ getD store (9 * q + j) 0
+  pub from : (j : ℕ) → j < 4 → getD w (fromAt k + j) 0 ≡ ownWord q j
+  pub last : getD w (lastAt k) 0 ≡ getD store (9 * q + 8) 0 % 2
+  pub rest : (i : ℕ) → (i < rowAt k) ⊎ (rowAt k + rowSize ≤ i) → getD w i 0 ≡ getD ws i 0
+
+abbrev pub Reduced : ℕ → ℕ → List ℕ → List ℕ → Type 0
+Reduced k r ws w =
+    ((w ≡ ws) × (0 < basicAt ws r → basicAt ws r ≤ 512 → bitAt ws (rowAt k) (basicAt ws r - 1) ≡ false))
+    ⊎ ((0 < basicAt ws r) × (basicAt ws r ≤ 512) × (bitAt ws (rowAt k) (basicAt ws r - 1) ≡ true) × Added r k ws w)
+
+pub record LowestAt (ws : List ℕ) (k x : ℕ) : Type 0 where
+  pub upto : x ≤ 512
+  pub none : x ≡ 0 → (i : ℕ) → i < 512 → bitAt ws (rowAt k) i ≡ false
+  pub some : (i : ℕ) → x ≡ suc i → bitAt ws (rowAt k) i ≡ true
+  pub under : (i : ℕ) → suc i < x → bitAt ws (rowAt k) i ≡ false
+
+pub data RowDone (q k : ℕ) (store ws : List ℕ) : List ℕ → ℕ → Type 0 where
+  nothing : (a w : List ℕ) → Loaded q k store ws a → Chain (Reduced k) k a w → LowestAt w k 0 → parityAt w k ≡ false → RowDone q k store ws w 0
+  contradiction : (a w : List ℕ) → Loaded q k store ws a → Chain (Reduced k) k a w → LowestAt w k 0 → parityAt w k ≡ true → RowDone q k store ws w 1
+  one-more : (a v w : List ℕ) (u : ℕ) → Loaded q k store ws a → Chain (Reduced k) k a v → LowestAt v k u → 0 < u → length v ≡ length ws → Exchanged (k + 1) k u v w → RowDone q k store ws w 2
+
+pub data RowOutcome (n m : ℕ) (Sheet : ℕ → Row) (kept : ℕ → Bool) (q k : ℕ) (w : List ℕ) : ℕ → Type 0 where
+  skipped : BuiltAt w n m Sheet kept (suc q) k → RowOutcome n m Sheet kept q k w 0
+  failed : (s : ℕ → Bool) → Fails n m Sheet kept q s → ((j : ℕ) → j < 256 → bitAt w (fromAt k) j ≡ same q j ⊕ s j) → RowOutcome n m Sheet kept q k w 1
+  inserted : BuiltAt w n m Sheet kept (suc q) (suc k) → RowOutcome n m Sheet kept q k w 2
+
+pub data Opens (store ws : List ℕ) : ℕ → ℕ → List ℕ → Type 0 where
+  start : Opens store ws 0 0 ws
+  pass : (q k : ℕ) (v w : List ℕ) → Opens store ws q k v → length v ≡ length ws → RowDone q k store v w 0 → Opens store ws (suc q) k w
+  grow : (q k : ℕ) (v w : List ℕ) → Opens store ws q k v → length v ≡ length ws → RowDone q k store v w 2 → Opens store ws (suc q) (suc k) w
+
+pub record AllIn (m : ℕ) (store ws : List ℕ) (k : ℕ) (w : List ℕ) : Type 0 where
+  pub middle : List ℕ
+  pub rows : Opens store ws m k middle
+  pub few : k ≤ m
+  pub long : length middle ≡ length ws
+  pub settled : Restarted k 0 middle w
+
+pub record Stopped (m : ℕ) (store ws : List ℕ) (q k : ℕ) (w : List ℕ) : Type 0 where
+  pub middle : List ℕ
+  pub low : q < m
+  pub rows : Opens store ws q k middle
+  pub few : k ≤ q
+  pub long : length middle ≡ length ws
+  pub last : RowDone q k store middle w 1
+
+abbrev pub Answered : ℕ → List ℕ → List ℕ → Opening → List ℕ → Type 0
+Answered m store ws (Open k) w = AllIn m store ws k w
+Answered m store ws (Unsat q k) w = Stopped m store ws q k w

@@ -1,0 +1,112 @@
+// Opening: the rows of the row store go into the working buffer, one after another.
+use exchange::exchange;
+use settle::restart;
+use tableau::FROM;
+use tableau::LAST;
+use tableau::ROW;
+use tableau::add_row;
+use tableau::load;
+use tableau::store;
+use tableau::words_at;
+use words::bit;
+use words::lowest;
+use words::own;
+ghost use Prim.Native.Nat.{ℕ, _+_, _*_, _<_, _≤_};
+ghost use lib.ListN.{length};
+ghost use Rattle.words.specs.Words.{ownWord};
+ghost use Rattle.tableau.specs.Layout.{fromAt, size};
+ghost use Rattle.tableau.specs.Buffer.{Run, Chain};
+ghost use Rattle.opening.specs.Opened.{Loaded, Reduced, RowDone, Answered};
+
+// The provenance of row k becomes row q of the sheet alone.
+pub fn mark_row(work: &mut [u64], q: usize, k: usize)
+    requires { ⌜ (size ≤ length (now work)) × (q < 256) × (k < 256) ⌝ }
+    ensures { λ _. ⌜ Run (fromAt k) 4 (λ j. ownWord q j) (now (work .entry)) (now (work .exit)) ⌝ }
+{
+    let a = ROW * k + FROM;
+    let mut j = 0;
+    while j < 4 {
+        work[a + j] = own(q + 1, j);
+        j += 1;
+    }
+}
+
+// Row q of the row store stands as row k.
+pub fn load_row(work: &mut [u64], rows: &[u64], q: usize, k: usize)
+    requires { ⌜ (size ≤ length (now work)) × (9 * q + 9 ≤ length (now rows)) × (q < 256) × (k < 256) ⌝ }
+    ensures { λ _. ⌜ Loaded q k (now (rows .entry)) (now (work .entry)) (now (work .exit)) ⌝ }
+{
+    store(work, k, words_at(rows, 9 * q));
+    mark_row(work, q, k);
+    let at = ROW * k + LAST;
+    work[at] = rows[9 * q + 8] % 2;
+}
+
+// Row r is added into row k, if that has its basic variable.
+pub fn reduce_by(work: &mut [u64], k: usize, r: usize)
+    requires { ⌜ (size ≤ length (now work)) × (k < 256) × (r < k) ⌝ }
+    ensures { λ _. ⌜ Reduced k r (now (work .entry)) (now (work .exit)) ⌝ }
+{
+    let v = work[ROW * r + LAST] / 2;
+    if v > 0 {
+        if v <= 512 {
+            if bit(work, ROW * k, v as usize) {
+                add_row(work, r, k);
+            }
+        }
+    }
+}
+
+// Row k is reduced by the rows before it.
+pub fn reduce(work: &mut [u64], k: usize)
+    requires { ⌜ (size ≤ length (now work)) × (k < 256) ⌝ }
+    ensures { λ _. ⌜ Chain (Reduced k) k (now (work .entry)) (now (work .exit)) ⌝ }
+{
+    let mut r = 0;
+    while r < k {
+        reduce_by(work, k, r);
+        r += 1;
+    }
+}
+
+// Row q of the row store goes in, with k rows kept so far: 0 it says nothing new, 1 it contradicts, 2 it is row k.
+pub fn open_row(work: &mut [u64], rows: &[u64], q: usize, k: usize) -> u64
+    requires { ⌜ (size ≤ length (now work)) × (9 * q + 9 ≤ length (now rows)) × (q < 256) × (k < 256) ⌝ }
+    ensures { λ x. ⌜ RowDone q k (now (rows .entry)) (now (work .entry)) (now (work .exit)) x ⌝ }
+{
+    load_row(work, rows, q, k);
+    reduce(work, k);
+    let u = lowest(load(work, k));
+    if u != 0 {
+        exchange(work, k + 1, k, u);
+        return 2;
+    }
+    work[ROW * k + LAST] % 2
+}
+
+// Open: the number of kept rows. Unsat: the place of the row that contradicts, and the number of rows kept before it.
+pub enum Opening {
+    Open(usize),
+    Unsat(usize, usize),
+}
+
+// All m rows of the row store go in, until one contradicts; then the variables that the rows alone decide get their values.
+pub fn open_rows(work: &mut [u64], rows: &[u64], m: usize) -> Opening
+    requires { ⌜ (size ≤ length (now work)) × (9 * m ≤ length (now rows)) × (m ≤ 256) ⌝ }
+    ensures { λ x. ⌜ Answered m (now (rows .entry)) (now (work .entry)) x (now (work .exit)) ⌝ }
+{
+    let mut q = 0;
+    let mut k = 0;
+    while q < m {
+        let a = open_row(work, rows, q, k);
+        if a == 1 {
+            return Opening::Unsat(q, k);
+        }
+        if a == 2 {
+            k += 1;
+        }
+        q += 1;
+    }
+    restart(work, k, 0);
+    Opening::Open(k)
+}

@@ -1,0 +1,198 @@
+-- ASSUME: what it answers, and what it leaves, case by case of what offering the literal did.
+--   held-facts ..      what each answer of an offer says of the buffer
+--   promise-refused    a check holds
+--   promise-held, promise-conflict, promise-stuck, promise-taken   none does: the four answers of an offer
+-- Assumes nothing.
+use mathlib.Core.Path.{_≡_, refl, sym, ap, ap₂, _∙_, subst}
+use mathlib.Core.Bool.{Bool, true, false, not, _&&_, and-assoc}
+use mathlib.Core.Logic.{_⊎_, inl, inr, _≢_}
+use mathlib.Core.Option.{some}
+use mathlib.Core.List.{List, _++_}
+use lib.ListN.{length, take, drop, getD, take-append-drop}
+use lib.Seq.{getD-take}
+use Prim.Native.Nat.{ℕ, zero, suc, _+_, _*_, _-_, _/_, _<_, _≤_}
+use native.Mathlib.Omega.{arith}
+use Rattle.gf2.specs.Field.{same}
+use Rattle.gf2.specs.Rows.{Var}
+use Rattle.gf2.specs.Answers.{variable, value, Position, assumed, held, conflict, implied, AnswersAssume}
+use Rattle.gf2.proofs.Sums.{same-comm}
+use Rattle.gf2.proofs.Literals.{of-range}
+use Rattle.gf2.proofs.Scans.{scanned}
+use Rattle.linear.specs.State.{with-at, with-bool}
+use Rattle.format.specs.Refusals.{refusal}
+use Rattle.judge.specs.declared.Header.{Header}
+use Rattle.judge.specs.Checks.{assumeChecks, atDepth}
+use Rattle.judge.proofs.Judged.{assume-judged}
+use Rattle.words.specs.Words.{bitAt}
+use Rattle.tableau.specs.Layout.{knownAt, truthAt}
+use Rattle.tableau.specs.Buffer.{Reads}
+use Rattle.tableau.specs.View.{MadeAt, vals}
+use Rattle.tableau.proofs.Runs.{reads-bit}
+use Rattle.tableau.proofs.Reading.{bit-of}
+use Rattle.exchange.specs.Steps as steps
+use Rattle.exchange.specs.Steps.{Stepped, Outcome, was-held, was-conflict, was-taken}
+use Rattle.exchange.proofs.Steps.{step-made}
+use Rattle.lists.specs.Listing.{isNew, Listed}
+use Rattle.parity.specs.declared.Assuming.{Assuming}
+use Rattle.parity.specs.declared.Assuming.the-variants.{AssumeRefused, Held, Conflict, Taken}
+use Rattle.parity.specs.Promises.{Stands, AssumePromise}
+use Rattle.parity.specs.Offers.{Offered, below, full-held, full-conflict, full-refused}
+use Rattle.parity.proofs.Part.{front-long, front-bit, replaced-front, replaced-worked}
+use Rattle.parity.proofs.Listing.{listed-front, listed-used}
+use Rattle.parity.proofs.Offering.{offered-held, offered-conflict, offered-full, taken-answer, taken-stands}
+
+-- ---- the answers of an offer
+module _ (n k d code : ℕ) (ws : List ℕ) where
+  pub held-facts : (w : List ℕ) (x : ℕ) → Offered n k d code ws w x → x ≡ 0 → (w ≡ ws) × (bitAt ws knownAt (variable code - 1) ≡ true) × (bitAt ws truthAt (variable code - 1) ≡ value code)
+  held-facts w x (below l (steps.held e f)) z = (refl, e, f)
+  held-facts w x (below l (steps.conflict e f)) z = absurd (omega arith)
+  held-facts w x (below l (steps.refused e f)) z = absurd (omega arith)
+  held-facts w x (below l (steps.taken a b c e f g h i)) z = absurd (omega arith)
+  held-facts w x (full-held l e f) z = (refl, e, f)
+  held-facts w x (full-conflict l e f) z = absurd (omega arith)
+  held-facts w x (full-refused l e) z = absurd (omega arith)
+
+  pub conflict-facts : (w : List ℕ) (x : ℕ) → Offered n k d code ws w x → x ≡ 1 → (w ≡ ws) × (bitAt ws knownAt (variable code - 1) ≡ true) × (bitAt ws truthAt (variable code - 1) ≢ value code)
+  conflict-facts w x (below l (steps.held e f)) z = absurd (omega arith)
+  conflict-facts w x (below l (steps.conflict e f)) z = (refl, e, f)
+  conflict-facts w x (below l (steps.refused e f)) z = absurd (omega arith)
+  conflict-facts w x (below l (steps.taken a b c e f g h i)) z = absurd (omega arith)
+  conflict-facts w x (full-held l e f) z = absurd (omega arith)
+  conflict-facts w x (full-conflict l e f) z = (refl, e, f)
+  conflict-facts w x (full-refused l e) z = absurd (omega arith)
+
+  pub taken-facts : (w : List ℕ) (x : ℕ) → Offered n k d code ws w x → x ≡ 2 → (d < n) × (bitAt ws knownAt (variable code - 1) ≡ false) × Stepped k d code ws w x
+  taken-facts w x (below l (steps.held e f)) z = absurd (omega arith)
+  taken-facts w x (below l (steps.conflict e f)) z = absurd (omega arith)
+  taken-facts w x (below l (steps.refused e f)) z = absurd (omega arith)
+  taken-facts w x (below l (steps.taken a b c e f g h i)) z = (l, e, steps.taken a b c e f g h i)
+  taken-facts w x (full-held l e f) z = absurd (omega arith)
+  taken-facts w x (full-conflict l e f) z = absurd (omega arith)
+  taken-facts w x (full-refused l e) z = absurd (omega arith)
+
+  pub stuck-facts : (w : List ℕ) (x : ℕ) → Offered n k d code ws w x → x ≢ 0 → x ≢ 1 → x ≢ 2
+      → (w ≡ ws) × (((d < n) × Stepped k d code ws ws 12) ⊎ ((n ≤ d) × (bitAt ws knownAt (variable code - 1) ≡ false)))
+  stuck-facts w x (below l (steps.held e f)) a b c = absurd (a refl)
+  stuck-facts w x (below l (steps.conflict e f)) a b c = absurd (b refl)
+  stuck-facts w x (below l (steps.refused e f)) a b c = (refl, inl (l, steps.refused e f))
+  stuck-facts w x (below l (steps.taken p q r e f g h i)) a b c = absurd (c refl)
+  stuck-facts w x (full-held l e f) a b c = absurd (a refl)
+  stuck-facts w x (full-conflict l e f) a b c = absurd (b refl)
+  stuck-facts w x (full-refused l e) a b c = (refl, inr (l, e))
+
+three : (a b c d e f : Bool) → a ≡ d → b ≡ e → c ≡ f → a && not b && not c ≡ d && (not e && not f)
+three a b c d e f p q r = rw (p, q, r) (and-assoc d (not e) (not f))
+
+-- ---- the promise
+module _ (h : Header) (work literals : List ℕ) (code : ℕ) where
+  abbrev number : ℕ
+  number = refusal (assumeChecks h (length work) (length literals) code)
+
+  pub promise-refused : (c : ℕ) → c ≡ number → (c ≡ 0 → ⊥) → AssumePromise h work literals code h (AssumeRefused c) work literals
+  promise-refused c e ne = record {
+    refused = λ d f. (ap AssumeRefused (e ∙ f), refl, refl, refl);
+    leaves = λ z. absurd (ne (e ∙ z));
+    right = λ z. absurd (ne (e ∙ z));
+  }
+
+  module _ (j : refusal (assumeChecks h (length work) (length literals) code) ≡ 0) where
+    room : 4096 ≤ length work
+    room = assume-judged h (length work) (length literals) code j .1
+
+    low : 2 ≤ code
+    low = assume-judged h (length work) (length literals) code j .3
+
+    high : code ≤ 2 * h .n + 1
+    high = assume-judged h (length work) (length literals) code j .4
+
+    -- the front was not changed: nor was the buffer
+    unchanged : (w : List ℕ) → w ≡ take 4096 work → w ++ drop 4096 work ≡ work
+    unchanged w e = rw e (take-append-drop 4096 work)
+
+    not-refused : (c : ℕ) → refusal (assumeChecks h (length work) (length literals) code) ≡ suc c → ⊥
+    not-refused c e = absurd (omega arith)
+
+    module _ (w : List ℕ) (x : ℕ) (o : Offered (h .n) (h .kept) (h .depth) code (take 4096 work) w x) where
+      pub promise-held : x ≡ 0 → AssumePromise h work literals code h Held (w ++ drop 4096 work) literals
+      promise-held z =
+          let f = held-facts (h .n) (h .kept) (h .depth) code (take 4096 work) w x o z in
+          subst (λ (u : List ℕ). AssumePromise h work literals code h Held u literals) (sym (unchanged w (f .0)))
+          (record { refused = λ c e. absurd (not-refused c e); leaves = λ q. (refl, refl, refl); right = λ q p s. record { said = held; says = refl; right = offered-held h work p s code low high (f .1) (f .2); stands = s } })
+
+      pub promise-conflict : x ≡ 1 → AssumePromise h work literals code h (Conflict (code / 2)) (w ++ drop 4096 work) literals
+      promise-conflict z =
+          let f = conflict-facts (h .n) (h .kept) (h .depth) code (take 4096 work) w x o z in
+          subst (λ (u : List ℕ). AssumePromise h work literals code h (Conflict (code / 2)) u literals) (sym (unchanged w (f .0)))
+          (record { refused = λ c e. absurd (not-refused c e); leaves = λ q. (refl, refl, refl, refl); right = λ q p s. record { said = conflict; says = refl; right = offered-conflict h work p s code low high (f .1) (f .2); stands = s } })
+
+      pub promise-stuck : x ≢ 0 → x ≢ 1 → x ≢ 2 → AssumePromise h work literals code h (AssumeRefused 12) (w ++ drop 4096 work) literals
+      promise-stuck a b c =
+          let f = stuck-facts (h .n) (h .kept) (h .depth) code (take 4096 work) w x o a b c in
+          subst (λ (u : List ℕ). AssumePromise h work literals code h (AssumeRefused 12) u literals) (sym (unchanged w (f .0)))
+          (record { refused = λ d e. absurd (not-refused d e); leaves = λ q. (refl, refl, refl, refl); right = λ q p s. absurd (never p s (f .1)) })
+        where
+          none : (p : Position) (s : Stands h work p) (a : ℕ)
+              → Outcome (h .n) (h .m) (s .Sheet) (s .kept) (h .depth) (s .var) (s .val) (h .kept) (variable code) (value code) (take 4096 work) a → a ≡ 12 → ⊥
+          none p s a (was-held e f) z = absurd (omega arith)
+          none p s a (was-conflict e f) z = absurd (omega arith)
+          none p s a (was-taken e f g) z = absurd (omega arith)
+
+          never : (p : Position) (s : Stands h work p) → ((h .depth < h .n) × Stepped (h .kept) (h .depth) code (take 4096 work) (take 4096 work) 12) ⊎ ((h .n ≤ h .depth) × (bitAt (take 4096 work) knownAt (variable code - 1) ≡ false)) → ⊥
+          never p s (inl g) =
+              none p s 12
+              (step-made (h .n) (h .m) (s .Sheet) (s .kept) (h .depth) (s .var) (s .val) (h .kept) (take 4096 work) code (of-range (h .n) code low (let u = high in omega arith)) (s .made)
+              (take 4096 work) 12 refl (g .1)) refl
+          never p s (inr g) = offered-full h work p s code low high (g .0) (g .1)
+
+      -- the literals listed are those that the definition asks for
+      module _ (old : List ℕ) (reads : Reads 8 work knownAt old) (e : length w ≡ length (take 4096 work)) (literals′ : List ℕ) (count : ℕ)
+          (l : Listed (h .n) 0 (scanned (h .n) (isNew (w ++ drop 4096 work) old (code / 2)) (vals (w ++ drop 4096 work) truthAt)) literals literals′ count) where
+        after-bit : (off : ℕ) → off + 8 ≤ 4096 → (i : ℕ) → i < 512 → bitAt (w ++ drop 4096 work) off i ≡ bitAt w off i
+        after-bit off b i c =
+            sym (front-bit (w ++ drop 4096 work) (let u = replaced-worked work w room e .long in let v = room in omega arith) off b i c) ∙ ap (λ (z : List ℕ). bitAt z off i) (replaced-front work w room e)
+
+        made-after : (p : Position) (s : Stands h work p) → x ≡ 2 → MadeAt w (h .n) (h .m) (s .Sheet) (s .kept) (suc (h .depth)) (with-at (s .var) (h .depth) (variable code)) (with-bool (s .val) (h .depth) (value code)) (h .kept)
+        made-after p s z =
+            let f = taken-facts (h .n) (h .kept) (h .depth) code (take 4096 work) w x o z in
+            pick (step-made (h .n) (h .m) (s .Sheet) (s .kept) (h .depth) (s .var) (s .val) (h .kept) (take 4096 work) code (of-range (h .n) code low (let u = high in omega arith)) (s .made)
+            w x e (f .2)) z
+          where
+            pick : {a : ℕ} → Outcome (h .n) (h .m) (s .Sheet) (s .kept) (h .depth) (s .var) (s .val) (h .kept) (variable code) (value code) w a → a ≡ 2
+                → MadeAt w (h .n) (h .m) (s .Sheet) (s .kept) (suc (h .depth)) (with-at (s .var) (h .depth) (variable code)) (with-bool (s .val) (h .depth) (value code)) (h .kept)
+            pick (was-held q r) z = absurd (omega arith)
+            pick (was-conflict q r) z = absurd (omega arith)
+            pick (was-taken q r t) z = t
+
+        pub promise-taken : x ≡ 2 → AssumePromise h work literals code (atDepth h (h .depth + 1)) (Taken count) (w ++ drop 4096 work) literals′
+        promise-taken z = record {
+          refused = λ c q. absurd (not-refused c q);
+          leaves = λ q. (refl, facts .0, l .few, replaced-worked work w room e, listed-used (h .n) _ literals literals′ count l fits);
+          right = λ q p s. record { said = implied (take count literals′); says = refl; right = answer p s; stands = taken-stands h work p s code low high w e room (facts .0) (made-after p s z) (facts .1) (take count literals′) (answer p s) };
+        }
+          where
+            facts : (h .depth < h .n) × (bitAt (take 4096 work) knownAt (variable code - 1) ≡ false) × Stepped (h .kept) (h .depth) code (take 4096 work) w x
+            facts = taken-facts (h .n) (h .kept) (h .depth) code (take 4096 work) w x o z
+
+            fits : h .n ≤ length literals
+            fits = assume-judged h (length work) (length literals) code j .2
+
+            test : (p : Position) (s : Stands h work p) (v : ℕ) → Var (h .n) v
+                → isNew (w ++ drop 4096 work) old (code / 2) v ≡ made-after p s z .known v && (not (s .made .known v) && not (same (variable code) v))
+            test p s zero mv = let a = mv .low in absurd (omega arith)
+            test p s (suc i) mv =
+                let b : i < 512 = let a = mv .high in let c = s .fit .vars in omega arith in
+                three _ _ _ _ _ _
+                (after-bit knownAt (omega arith) i b ∙ made-after p s z .values .knows i b)
+                (reads-bit 8 knownAt work old reads i (omega arith) ∙ sym (front-bit work room knownAt (omega arith) i b) ∙ s .made .values .knows i b)
+                (same-comm (suc i) (code / 2))
+
+            sign : (p : Position) (s : Stands h work p) (v : ℕ) → Var (h .n) v → vals (w ++ drop 4096 work) truthAt v ≡ made-after p s z .truth v
+            sign p s zero mv = let a = mv .low in absurd (omega arith)
+            sign p s (suc i) mv =
+                let b : i < 512 = let a = mv .high in let c = s .fit .vars in omega arith in
+                after-bit truthAt (omega arith) i b ∙ made-after p s z .values .trues i b
+
+            answer : (p : Position) (s : Stands h work p) → AnswersAssume p code (implied (take count literals′))
+            answer p s =
+                subst (λ (ls : List ℕ). AnswersAssume p code (implied ls)) (sym (listed-front (h .n) _ literals literals′ count l fits))
+                (taken-answer h work p s code low high w e room (facts .0) (made-after p s z) (facts .1) (isNew (w ++ drop 4096 work) old (code / 2)) (vals (w ++ drop 4096 work) truthAt) (test p s) (sign p s))

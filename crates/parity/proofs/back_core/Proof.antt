@@ -1,0 +1,82 @@
+use mathlib.Core.Path.{_≡_, refl, sym, _∙_}
+use lib.ListN.{length}
+use Prim.Native.Nat.{_≤_}
+use native.Mathlib.Omega.{arith}
+use Rattle.judge.proofs.Closed.{Fit}
+use Rattle.judge.proofs.Judged.{back-judged}
+use Rattle.parity.proofs.Part.{front-long, replaced-worked}
+use Rattle.parity.proofs.Going.{back-stands}
+use borrow.Author.Needs.{needs}
+use Rattle.parity.proofs.back_core.Statement.{statement}
+use Rattle.parity.proofs.back_core.Tie as tie
+use Rattle.parity.proofs.back_core.Reads as reads
+use Rattle.parity.proofs.back_core.Lts as lts
+use Rattle.judge.proofs.judge_back.Reads as judge-back-reads
+use Rattle.settle.proofs.restart.Reads as restart-reads
+
+-- what the judge let pass
+judged : (c : tie.Else1) → Fit (c .before .before .before .args .h) × (4096 ≤ length (c .before .before .before .args .work .now)) × (c .before .before .before .args .depth ≤ c .before .before .before .args .h .depth)
+judged c = let a = c .before .before .before .args in back-judged (a .h) (length (a .work .now)) (a .depth) (sym (c .before .judge-back .ensures) ∙ c .if1 .left)
+
+-- src/lib.rt:36:9
+judge-back-requires : tie.Need-judge-back-requires
+judge-back-requires c κs = search needs
+
+-- src/lib.rt:39:21
+cast-t8 : tie.Need-cast-t8
+cast-t8 c = search needs
+
+-- src/lib.rt:38:9
+returns : tie.Need-returns
+returns c = let a = c .before .before .before .args in record {
+  answer = c .before .judge-back .ensures;
+  refused = λ x e. (refl, refl);
+  done = λ e. absurd (c .if1 .taken e);
+  right = λ e. absurd (c .if1 .taken e);
+}
+
+-- src/lib.rt:44:21
+slice-relend-prefix-restart : tie.Need-slice-relend-prefix-restart
+slice-relend-prefix-restart c = judged c .1
+
+-- src/lib.rt:44:21
+slice-aggregate-restart : tie.Need-slice-aggregate-restart
+slice-aggregate-restart c = sym (front-long (c .before .before .before .before .args .work .now) (judged (c .before) .1))
+
+-- src/lib.rt:44:5
+restart-requires : tie.Need-restart-requires
+restart-requires c κs = let j = judged (c .before) in
+    let f = j .0 in
+    let l = front-long (c .before .before .before .before .args .work .now) (j .1) in
+    (omega (arith, l), let a = f .kept in let b = f .rows in omega arith, let a = f .depth in let b = f .vars in let d = j .2 in omega arith)
+
+-- src/lib.rt:33:1
+same-length : tie.Need-same-length
+same-length c = search needs
+
+-- src/lib.rt:33:1
+returns-2 : tie.Need-returns-2
+returns-2 c = let w = c .before .before .before .before in
+    let a = w .before .before .before .args in
+    let j = judged w in
+    let ws = c .before .before .restart .last .0 in
+    let e = c .before .before .restart .kept .0 in
+    record {
+      answer = sym (sym (w .before .judge-back .ensures) ∙ w .if1 .left);
+      refused = λ x e. absurd (omega arith);
+      done = λ z. (refl, replaced-worked (a .work .now) ws (j .1) e);
+      right = λ z p s. back-stands (a .h) (a .work .now) ws p s (j .1) e (a .depth) (j .2) (c .before .before .restart .ensures);
+    }
+
+pub back-core-spec : {M : Type 1} → statement M
+back-core-spec =
+    tie.close
+    (tie.spec
+    judge-back-requires
+    cast-t8
+    returns
+    slice-relend-prefix-restart
+    slice-aggregate-restart
+    restart-requires
+    same-length
+    returns-2)

@@ -1,0 +1,263 @@
+// The calls: open, assume, back and explain on a header by value and buffers that the caller lends.
+use judge::Header;
+use sheet::Reading;
+use tableau::KNOWN;
+use tableau::TRUTH;
+use words::bit;
+ghost use mathlib.Core.Path.{_≡_};
+ghost use Prim.Native.Nat.{_+_, _*_, _<_, _≤_};
+ghost use Rattle.judge.specs.Checks.{atDepth};
+ghost use lib.ListN.{length};
+ghost use Rattle.tableau.specs.Layout.{size};
+ghost use Rattle.parity.specs.Offers.{Offered};
+ghost use Rattle.parity.specs.Openings.{openReading, RowsOpened};
+ghost use Rattle.parity.specs.Promises.{OpenPromise, AssumePromise, BackPromise, ExplainPromise};
+
+// What open answers: refused with its number; unsatisfiable, with so many row numbers listed; open, with so many implied literals listed.
+pub enum Opening {
+    OpenRefused(u8),
+    Unsatisfiable(usize),
+    Opened(usize),
+}
+
+// What assume answers: refused with its number; held; in conflict with the value of a variable; taken, with so many newly implied literals listed.
+pub enum Assuming {
+    AssumeRefused(u8),
+    Held,
+    Conflict(usize),
+    Taken(usize),
+}
+
+// What explain answers: refused with its number; so many codes of the clause and so many row numbers listed.
+pub enum Explaining {
+    ExplainRefused(u8),
+    Explained(usize, usize),
+}
+
+// A literal is offered, with so many rows kept and so many literals taken: 0 held, 1 conflict, 2 taken, 12 refused.
+fn offer(work: &mut [u64], n: usize, kept: usize, depth: usize, code: usize) -> u64
+    requires { ⌜ (size ≤ length (now work)) × (n ≤ 512) × (kept ≤ 256) × (2 ≤ code) × (code ≤ 2 * n + 1) ⌝ }
+    ensures { λ x. ⌜ Offered n kept depth code (now (work .entry)) (now (work .exit)) x ⌝ }
+{
+    if depth < n {
+        return exchange::step(work, kept, depth, code);
+    }
+    let v = code / 2;
+    if !bit(work, KNOWN, v) {
+        return 12;
+    }
+    if bit(work, TRUTH, v) == (code % 2 == 0) {
+        return 0;
+    }
+    1
+}
+
+// What back hands back: 0 or the number of its refusal, and the header.
+pub struct BackOut {
+    pub number: u64,
+    pub header: Header,
+}
+
+// Back to a depth: the first taken literals are kept, and the values are made anew from them.
+pub fn back_core(h: Header, work: &mut [u64], depth: usize) -> BackOut
+    ensures { λ r. ⌜ BackPromise h (now (work .entry)) depth (r .number) (r .header) (now (work .exit)) ⌝ }
+{
+    let number = judge::judge_back(h, work.len(), depth);
+    if number != 0 {
+        return BackOut {
+            number: number as u64,
+            header: h,
+        };
+    }
+    let kept = h.kept;
+    settle::restart(&mut work[..4096], kept, depth);
+    BackOut {
+        number: 0,
+        header: Header {
+            open: h.open,
+            n: h.n,
+            m: h.m,
+            kept,
+            depth,
+        },
+    }
+}
+
+// What assume hands back: the header, one literal deeper where the literal was taken, and the answer.
+pub struct AssumeOut {
+    pub header: Header,
+    pub answer: Assuming,
+}
+
+// The header, one literal deeper.
+fn deeper(h: Header) -> Header
+    requires { ⌜ h .depth < 512 ⌝ }
+    ensures { λ r. ⌜ r ≡ atDepth h (h .depth + 1) ⌝ }
+{
+    Header {
+        open: h.open,
+        n: h.n,
+        m: h.m,
+        kept: h.kept,
+        depth: h.depth + 1,
+    }
+}
+
+// A literal is assumed.
+pub fn assume(h: Header, work: &mut [u64], literals: &mut [u64], code: usize) -> AssumeOut
+    ensures { λ r. ⌜ AssumePromise h (now (work .entry)) (now (literals .entry)) code (r .header) (r .answer) (now (work .exit)) (now (literals .exit)) ⌝ }
+{
+    let number = judge::judge_assume(h, work.len(), literals.len(), code);
+    if number != 0 {
+        return AssumeOut {
+            header: h,
+            answer: Assuming::AssumeRefused(number),
+        };
+    }
+    let n = h.n;
+    let old = tableau::copy_known(work);
+    let x = offer(&mut work[..4096], n, h.kept, h.depth, code);
+    match x {
+        0 => AssumeOut {
+            header: h,
+            answer: Assuming::Held,
+        },
+        1 => AssumeOut {
+            header: h,
+            answer: Assuming::Conflict(code / 2),
+        },
+        2 => {
+            let count = lists::list_new(work, &old, code / 2, n, literals);
+            AssumeOut {
+                header: deeper(h),
+                answer: Assuming::Taken(count),
+            }
+        }
+        _ => AssumeOut {
+            header: h,
+            answer: Assuming::AssumeRefused(12),
+        },
+    }
+}
+
+// The value of a variable is explained.
+pub fn explain(
+    h: Header,
+    work: &[u64],
+    clause: &mut [u64],
+    rows: &mut [u64],
+    v: usize,
+) -> Explaining
+    ensures { λ r. ⌜ ExplainPromise h (now (work .entry)) (now (clause .entry)) (now (rows .entry)) v r (now (clause .exit)) (now (rows .exit)) ⌝ }
+{
+    let number = judge::judge_explain(h, work.len(), clause.len(), rows.len(), v);
+    if number != 0 {
+        return Explaining::ExplainRefused(number);
+    }
+    let kept = h.kept;
+    if !bit(work, KNOWN, v) {
+        return Explaining::ExplainRefused(10);
+    }
+    let r = exchange::find(work, kept, v);
+    if r == kept {
+        return Explaining::ExplainRefused(10);
+    }
+    let codes = lists::list_clause(work, r, v, h.n, clause);
+    let numbers = lists::list_rows(work, r, h.m, rows);
+    Explaining::Explained(codes, numbers)
+}
+
+// What open hands back: the header, which is the earlier one where opening is refused, and the answer.
+pub struct OpenOut {
+    pub header: Header,
+    pub answer: Opening,
+}
+
+// The checks of open, in order.
+fn judge_open(s: &[u8], store: usize, words: usize, literals: usize, rows: usize) -> Reading
+    ensures { λ r. ⌜ r ≡ openReading (now (s .entry)) store words literals rows ⌝ }
+{
+    let a = sheet::judge(s, store);
+    match a {
+        Reading::Refused(c) => Reading::Refused(c),
+        Reading::Read { n, m } => {
+            if words < 4096 {
+                return Reading::Refused(6);
+            }
+            if literals < n {
+                return Reading::Refused(7);
+            }
+            if rows < m {
+                return Reading::Refused(7);
+            }
+            Reading::Read { n, m }
+        }
+    }
+}
+
+// The rows of the store go into the working buffer, and the list of the answer is made.
+fn open_all(
+    n: usize,
+    m: usize,
+    store: &[u64],
+    work: &mut [u64],
+    literals: &mut [u64],
+    rows: &mut [u64],
+) -> OpenOut
+    requires { ⌜ (n ≤ 512) × (m ≤ 256) × (9 * m ≤ length (now store)) × (4096 ≤ length (now work)) × (n ≤ length (now literals)) × (m ≤ length (now rows)) ⌝ }
+    ensures { λ r. ⌜ RowsOpened n m (now (store .entry)) (now (work .entry)) (now (literals .entry)) (now (rows .entry)) (r .header) (r .answer) (now (work .exit)) (now (literals .exit)) (now (rows .exit)) ⌝ }
+{
+    let x = opening::open_rows(&mut work[..4096], store, m);
+    match x {
+        opening::Opening::Open(k) => {
+            let count = lists::list_known(work, n, literals);
+            OpenOut {
+                header: Header {
+                    open: 1,
+                    n,
+                    m,
+                    kept: k,
+                    depth: 0,
+                },
+                answer: Opening::Opened(count),
+            }
+        }
+        opening::Opening::Unsat(_, k) => {
+            let count = lists::list_rows(work, k, m, rows);
+            OpenOut {
+                header: Header {
+                    open: 0,
+                    n: 0,
+                    m: 0,
+                    kept: 0,
+                    depth: 0,
+                },
+                answer: Opening::Unsatisfiable(count),
+            }
+        }
+    }
+}
+
+// A sheet is opened. Everything is judged before anything is written.
+pub fn open(
+    old: Header,
+    s: &[u8],
+    store: &mut [u64],
+    work: &mut [u64],
+    literals: &mut [u64],
+    rows: &mut [u64],
+) -> OpenOut
+    ensures { λ r. ⌜ OpenPromise old (now (s .entry)) (now (store .entry)) (now (work .entry)) (now (literals .entry)) (now (rows .entry)) (r .header) (r .answer) (now (store .exit)) (now (work .exit)) (now (literals .exit)) (now (rows .exit)) ⌝ }
+{
+    let a = judge_open(s, store.len(), work.len(), literals.len(), rows.len());
+    match a {
+        Reading::Refused(c) => OpenOut {
+            header: old,
+            answer: Opening::OpenRefused(c),
+        },
+        Reading::Read { n, m } => {
+            sheet::fill(s, n, m, store);
+            open_all(n, m, store, work, literals, rows)
+        }
+    }
+}

@@ -1,0 +1,5 @@
+pub mod Testing
+pub mod Putting
+pub mod Settles
+pub mod Starts
+pub mod Restarts

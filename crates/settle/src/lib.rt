@@ -1,0 +1,147 @@
+// Values: those of the taken literals, and then what each row gives its basic variable.
+use tableau::KNOWN;
+use tableau::LAST;
+use tableau::ROW;
+use tableau::TRUTH;
+use tableau::copy_truth;
+use tableau::entry;
+use tableau::load;
+use words::odd;
+use words::own;
+ghost use mathlib.Core.Path.{_≡_};
+ghost use Prim.Native.Nat.{ℕ, _-_, _<_, _≤_};
+ghost use lib.ListN.{length};
+ghost use Rattle.tableau.specs.Layout.{knownAt, size};
+ghost use Rattle.tableau.specs.Buffer.{Run, Chain};
+ghost use Rattle.settle.specs.Values.{Full, Put, valueAt, Ready, RowSettled, EntrySet, Restarted};
+
+// Variable v gets the value b.
+pub fn put(work: &mut [u64], v: usize, b: bool)
+    requires { ⌜ (size ≤ length (now work)) × (0 < v) × (v ≤ 512) ⌝ }
+    ensures { λ _. ⌜ Put (v - 1) b (now (work .entry)) (now (work .exit)) ⌝ }
+{
+    let p = v - 1;
+    let j = p / 64;
+    let k = KNOWN + j;
+    let t = TRUTH + j;
+    let mask = own(v, j);
+    let bit = if b { mask } else { 0 };
+    work[k] = work[k] | mask;
+    work[t] = work[t] | bit;
+}
+
+// Whether v is the one variable of row r without a value.
+pub fn full(work: &[u64], r: usize, v: usize) -> bool
+    requires { ⌜ (size ≤ length (now work)) × (r < 256) × (0 < v) × (v ≤ 512) ⌝ }
+    ensures { λ x. ⌜ Full (now (work .entry)) r (v - 1) x ⌝ }
+{
+    let a = ROW * r;
+    let mut j = 0;
+    while j < 8 {
+        let x = work[a + j];
+        let y = x ^ (x & work[KNOWN + j]);
+        let z = own(v, j);
+        if y ^ z != 0 {
+            return false;
+        }
+        j += 1;
+    }
+    true
+}
+
+// The value that row r gives its basic variable, which counts as false so far.
+pub fn value(work: &[u64], r: usize) -> bool
+    requires { ⌜ (size ≤ length (now work)) × (r < 256) ⌝ }
+    ensures { λ x. ⌜ x ≡ valueAt (now (work .entry)) r ⌝ }
+{
+    let b = odd(load(work, r), copy_truth(work));
+    if work[ROW * r + LAST] % 2 == 1 { !b } else { b }
+}
+
+// The basic variable of row r if it alone has no value in its row, else 0.
+pub fn ready(work: &[u64], r: usize) -> usize
+    requires { ⌜ (size ≤ length (now work)) × (r < 256) ⌝ }
+    ensures { λ x. ⌜ Ready (now (work .entry)) r x ⌝ }
+{
+    let v = work[ROW * r + LAST] / 2;
+    if v == 0 {
+        return 0;
+    }
+    if v > 512 {
+        return 0;
+    }
+    let u = v as usize;
+    if full(work, r, u) { u } else { 0 }
+}
+
+// Row r gives its basic variable a value, if it does.
+pub fn settle_row(work: &mut [u64], r: usize)
+    requires { ⌜ (size ≤ length (now work)) × (r < 256) ⌝ }
+    ensures { λ _. ⌜ RowSettled r (now (work .entry)) (now (work .exit)) ⌝ }
+{
+    let v = ready(work, r);
+    if v != 0 {
+        let b = value(work, r);
+        put(work, v, b);
+    }
+}
+
+// Every row below k gives its basic variable a value, if it does.
+pub fn settle(work: &mut [u64], k: usize)
+    requires { ⌜ (size ≤ length (now work)) × (k ≤ 256) ⌝ }
+    ensures { λ _. ⌜ Chain RowSettled k (now (work .entry)) (now (work .exit)) ⌝ }
+{
+    let mut r = 0;
+    while r < k {
+        settle_row(work, r);
+        r += 1;
+    }
+}
+
+// No variable has a value.
+pub fn clear_values(work: &mut [u64])
+    requires { ⌜ size ≤ length (now work) ⌝ }
+    ensures { λ _. ⌜ Run knownAt 16 (λ i. 0) (now (work .entry)) (now (work .exit)) ⌝ }
+{
+    let mut j = 0;
+    while j < 16 {
+        work[KNOWN + j] = 0;
+        j += 1;
+    }
+}
+
+// The variable of entry j of the record gets its value, if the entry is a literal.
+pub fn put_entry(work: &mut [u64], j: usize)
+    requires { ⌜ (size ≤ length (now work)) × (j < 512) ⌝ }
+    ensures { λ _. ⌜ EntrySet j (now (work .entry)) (now (work .exit)) ⌝ }
+{
+    let code = entry(work, j);
+    if code >= 2 {
+        if code < 1026 {
+            let v = (code / 2) as usize;
+            put(work, v, code % 2 == 0);
+        }
+    }
+}
+
+// The variables of the first d entries of the record get their values.
+pub fn put_entries(work: &mut [u64], d: usize)
+    requires { ⌜ (size ≤ length (now work)) × (d ≤ 512) ⌝ }
+    ensures { λ _. ⌜ Chain EntrySet d (now (work .entry)) (now (work .exit)) ⌝ }
+{
+    let mut j = 0;
+    while j < d {
+        put_entry(work, j);
+        j += 1;
+    }
+}
+
+// The values are made anew from the first d entries of the record and the first k rows.
+pub fn restart(work: &mut [u64], k: usize, d: usize)
+    requires { ⌜ (size ≤ length (now work)) × (k ≤ 256) × (d ≤ 512) ⌝ }
+    ensures { λ _. ⌜ Restarted k d (now (work .entry)) (now (work .exit)) ⌝ }
+{
+    clear_values(work);
+    put_entries(work, d);
+    settle(work, k);
+}

@@ -1,0 +1,50 @@
+-- WHAT THE LEAF OPERATIONS READ AND WRITE, on every buffer.
+--   Run off k want ws w     the k words from off are the wanted ones; the others of ws are as they were
+--   Reads k ws at r         r has the k words of ws from place at
+--   basicAt, parityAt       the basic variable and the parity of a row
+--   entryAt                 an entry of the record; Recorded: one has been set
+--   Added f t ws w          row f has been added into row t, which keeps its basic variable
+--   Chain Step k ws w       the steps 0 .. k - 1 one after another
+-- Assumes nothing.
+use mathlib.Core.Path.{_≡_}
+use mathlib.Core.List.{List}
+use mathlib.Core.Logic.{_≢_, _⊎_}
+use mathlib.Core.Bool.{Bool}
+use Prim.Native.Nat.{ℕ, zero, suc, _+_, _*_, _/_, _%_, _<_, _≤_}
+use lib.ListN.{length, getD}
+use lib.Bits.{bitXor}
+use Rattle.words.specs.Words.{digit}
+use Rattle.tableau.specs.Layout.{rowSize, rowAt, lastAt, recordAt}
+
+pub record Run (off k : ℕ) (want : ℕ → ℕ) (ws w : List ℕ) : Type 0 where
+  pub len : length w ≡ length ws
+  pub done : (i : ℕ) → i < k → getD w (off + i) 0 ≡ want i
+  pub rest : (i : ℕ) → (i < off) ⊎ (off + k ≤ i) → getD w i 0 ≡ getD ws i 0
+
+pub record Reads (k : ℕ) (ws : List ℕ) (at : ℕ) (r : List ℕ) : Type 0 where
+  pub word : (j : ℕ) → j < k → getD r j 0 ≡ getD ws (at + j) 0
+
+abbrev pub basicAt : List ℕ → ℕ → ℕ
+basicAt ws r = getD ws (lastAt r) 0 / 2
+
+abbrev pub parityAt : List ℕ → ℕ → Bool
+parityAt ws r = digit (getD ws (lastAt r) 0 % 2)
+
+unfoldable pub entryAt : List ℕ → ℕ → ℕ
+entryAt ws j = getD ws (recordAt + j) 0
+
+pub record Recorded (j code : ℕ) (ws w : List ℕ) : Type 0 where
+  pub len : length w ≡ length ws
+  pub here : entryAt w j ≡ code
+  pub others : (i : ℕ) → i ≢ j → entryAt w i ≡ entryAt ws i
+  pub rest : (i : ℕ) → i < recordAt → getD w i 0 ≡ getD ws i 0
+
+pub record Added (f t : ℕ) (ws w : List ℕ) : Type 0 where
+  pub len : length w ≡ length ws
+  pub bits : (j : ℕ) → j < 12 → getD w (rowAt t + j) 0 ≡ bitXor (getD ws (rowAt t + j) 0) (getD ws (rowAt f + j) 0)
+  pub last : getD w (lastAt t) 0 ≡ getD ws (lastAt t) 0 / 2 * 2 + (getD ws (lastAt t) 0 % 2 + getD ws (lastAt f) 0 % 2) % 2
+  pub rest : (i : ℕ) → (i < rowAt t) ⊎ (rowAt t + rowSize ≤ i) → getD w i 0 ≡ getD ws i 0
+
+abbrev pub Chain : (ℕ → List ℕ → List ℕ → Type 0) → ℕ → List ℕ → List ℕ → Type 0
+Chain Step zero ws w = w ≡ ws
+Chain Step (suc k) ws w = (v : List ℕ) × (length v ≡ length ws) × Chain Step k ws v × Step k v w
