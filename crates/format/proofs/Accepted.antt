@@ -2,7 +2,6 @@
 --   bits-bound           a sheet within the bounds has few bits
 --   later s n m room     the reader's checks after the first, with n and m as the sheet has them
 --   first-1, later-2 ..  the number of the first check that holds
---   refusal-kept, refusal-next, reader-numbered   with further checks: an earlier one that holds decides; where none does, the further ones
 --   Accepted, accepted   what a sheet is that passes them all, and that it is so
 --   Writable, writable   the same of what is to be written
 -- Assumes nothing.
@@ -21,7 +20,7 @@ use Rattle.format.proofs.Clean.{not-false}
 use Rattle.format.specs.Bits.{bitsOf, valueOf}
 use Rattle.format.specs.Refusals.{Check, check, unless, refusal}
 use Rattle.format.specs.Sheet.{nOf, mOf, bitsFor, sizeFor, paddingOf, clean, reader, writer}
-use Rattle.gf2.specs.Lists.{All}
+use Rattle.format.proofs.Refusing as refusing
 
 pub bits-bound : (n m : ℕ) → n ≤ 512 → m ≤ 256 → m * (n + 1) ≤ 131328
 bits-bound n m hn hm =
@@ -76,32 +75,7 @@ module _ (s : List ℕ) (n m room : ℕ) where
     pub later-none : valueOf (drop (bitsFor n m) (bitsOf s)) ≤ 0 → 9 * m ≤ room → refusal (later s n m room) ≡ 0
     later-none h l = sized ∙ simp (le-ltb 0 (valueOf (drop (bitsFor n m) (bitsOf s))) h, le-ltb room (9 * m) l)
 
--- ---- checks and further checks
-
-pub refusal-kept : (cs ds : List Check) (k : ℕ) → refusal cs ≡ suc k → refusal (cs ++ ds) ≡ suc k
-refusal-kept [] ds k e = absurd (omega arith)
-refusal-kept (c ∷ cs) ds k e = go (c .fails) (refusal-kept cs ds k) e
-  where
-    go : (b : Bool) → (refusal cs ≡ suc k → refusal (cs ++ ds) ≡ suc k) → unless b (c .number) (refusal cs) ≡ suc k → unless b (c .number) (refusal (cs ++ ds)) ≡ suc k
-    go true h e = e
-    go false h e = h e
-
-pub refusal-next : (cs ds : List Check) → All (λ c. 0 < c .number) cs → refusal cs ≡ 0 → refusal (cs ++ ds) ≡ refusal ds
-refusal-next [] ds p e = refl
-refusal-next (c ∷ cs) ds p e = go (c .fails) (p .0) (refusal-next cs ds (p .1)) e
-  where
-    go : (b : Bool) → 0 < c .number → (refusal cs ≡ 0 → refusal (cs ++ ds) ≡ refusal ds) → unless b (c .number) (refusal cs) ≡ 0 → unless b (c .number) (refusal (cs ++ ds)) ≡ refusal ds
-    go true l h e = absurd (omega arith)
-    go false l h e = h e
-
-pub reader-numbered : (s : List ℕ) (room : ℕ) → All (λ c. 0 < c .number) (reader s room)
-reader-numbered s room = (omega arith, (omega arith, (omega arith, (omega arith, (omega arith, (omega arith, (omega arith, tt)))))))
-
 -- ---- what passes every check
-
-passed : (b : Bool) (k r : ℕ) → unless b (suc k) r ≡ 0 → (b ≡ false) × (r ≡ 0)
-passed true k r e = absurd (omega arith)
-passed false k r e = (refl, e)
 
 pub record Accepted (s : List ℕ) (room n m : ℕ) : Type 0 where
   pub n-is : n ≡ nOf s
@@ -114,29 +88,18 @@ pub record Accepted (s : List ℕ) (room n m : ℕ) : Type 0 where
 
 pub accepted : (s : List ℕ) (room : ℕ) → refusal (reader s room) ≡ 0 → Accepted s room (nOf s) (mOf s)
 accepted s room e =
-    let n : ℕ = nOf s in
-    let m : ℕ = mOf s in
-    let r₆ : ℕ = unless (ltb room (9 * m)) 6 0 in
-    let r₅ : ℕ = unless (ltb 0 (paddingOf s)) 5 r₆ in
-    let r₄ : ℕ = unless (ltb (sizeFor n m) (length s)) 4 r₅ in
-    let r₁ : ℕ = unless (ltb (length s) (sizeFor n m)) 1 r₄ in
-    let r₃ : ℕ = unless (ltb 256 m) 3 r₁ in
-    let r₂ : ℕ = unless (ltb 512 n) 2 r₃ in
-    let p₀ = passed (ltb (length s) 3) 0 r₂ e in
-    let p₂ = passed (ltb 512 n) 1 r₃ (p₀ .1) in
-    let p₃ = passed (ltb 256 m) 2 r₁ (p₂ .1) in
-    let p₁ = passed (ltb (length s) (sizeFor n m)) 0 r₄ (p₃ .1) in
-    let p₄ = passed (ltb (sizeFor n m) (length s)) 3 r₅ (p₁ .1) in
-    let p₅ = passed (ltb 0 (paddingOf s)) 4 r₆ (p₄ .1) in
-    let p₆ = passed (ltb room (9 * m)) 5 0 (p₅ .1) in
+    let p = refusing.accepted (reader s room) refl e in
+    let a = ltb-false (length s) (sizeFor (nOf s) (mOf s)) (p .1 .1 .1 .0) in
+    let b = ltb-false (sizeFor (nOf s) (mOf s)) (length s) (p .1 .1 .1 .1 .0) in
+    let z = ltb-false 0 (paddingOf s) (p .1 .1 .1 .1 .1 .0) in
     record {
       n-is = refl;
       m-is = refl;
-      n-small = ltb-false 512 n (p₂ .0);
-      m-small = ltb-false 256 m (p₃ .0);
-      size = omega (arith, ltb-false (length s) (sizeFor n m) (p₁ .0), ltb-false (sizeFor n m) (length s) (p₄ .0));
-      zeros = omega (arith, ltb-false 0 (paddingOf s) (p₅ .0));
-      room-enough = ltb-false room (9 * m) (p₆ .0);
+      n-small = ltb-false 512 (nOf s) (p .1 .0);
+      m-small = ltb-false 256 (mOf s) (p .1 .1 .0);
+      size = omega (arith, a, b);
+      zeros = omega (arith, z);
+      room-enough = ltb-false room (9 * mOf s) (p .1 .1 .1 .1 .1 .1 .0);
     }
 
 pub record Writable (n m : ℕ) (ws : List ℕ) (room : ℕ) : Type 0 where
@@ -148,19 +111,11 @@ pub record Writable (n m : ℕ) (ws : List ℕ) (room : ℕ) : Type 0 where
 
 pub writable : (n m : ℕ) (ws : List ℕ) (room : ℕ) → refusal (writer n m ws room) ≡ 0 → Writable n m ws room
 writable n m ws room e =
-    let r₇ : ℕ = unless (ltb room (sizeFor n m)) 7 0 in
-    let r₅ : ℕ = unless (not (clean n m ws)) 5 r₇ in
-    let r₆ : ℕ = unless (ltb (length ws) (9 * m)) 6 r₅ in
-    let r₃ : ℕ = unless (ltb 256 m) 3 r₆ in
-    let p₂ = passed (ltb 512 n) 1 r₃ e in
-    let p₃ = passed (ltb 256 m) 2 r₆ (p₂ .1) in
-    let p₆ = passed (ltb (length ws) (9 * m)) 5 r₅ (p₃ .1) in
-    let p₅ = passed (not (clean n m ws)) 4 r₇ (p₆ .1) in
-    let p₇ = passed (ltb room (sizeFor n m)) 6 0 (p₅ .1) in
+    let p = refusing.accepted (writer n m ws room) refl e in
     record {
-      n-small = ltb-false 512 n (p₂ .0);
-      m-small = ltb-false 256 m (p₃ .0);
-      words-enough = ltb-false (length ws) (9 * m) (p₆ .0);
-      is-clean = not-false (clean n m ws) (p₅ .0);
-      room-enough = ltb-false room (sizeFor n m) (p₇ .0);
+      n-small = ltb-false 512 n (p .0);
+      m-small = ltb-false 256 m (p .1 .0);
+      words-enough = ltb-false (length ws) (9 * m) (p .1 .1 .0);
+      is-clean = not-false (clean n m ws) (p .1 .1 .1 .0);
+      room-enough = ltb-false room (sizeFor n m) (p .1 .1 .1 .1 .0);
     }

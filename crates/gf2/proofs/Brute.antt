@@ -1,4 +1,8 @@
--- The answers by brute force: over all assignments of the variables 1 .. n, and all parts of a list.
+-- THE ANSWERS BY BRUTE FORCE: over all assignments of the variables 1 .. n, and all parts of a list.
+--   find-part, all-pass   some part of a list that passes a test; whether all members do
+--   run                   rows taken in order
+--   every, implies        a test over all assignments; whether a position implies a literal
+--   open-answer, assume-answer, explain-answer   the answers
 -- Assumes nothing.
 use mathlib.Core.Bool.{Bool, true, false, not, _&&_, cond, Bool·beq}
 use mathlib.Core.Option.{Option, none, some}

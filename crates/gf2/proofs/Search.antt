@@ -1,4 +1,8 @@
--- A search over the parts of a list finds one that passes, or none passes; a test over the assignments of 1 .. n passes all, or one fails.
+-- SEARCHES AND TESTS: a search over the parts of a list finds one that passes, or none passes; a test over the assignments of 1 .. n passes all, or one fails.
+--   and-both .. eqb-other      tests and what they say
+--   agree-same, same-agree     equal coefficients, as a test
+--   every-true, every-false    all assignments
+--   from-..                    listings
 -- Assumes nothing.
 use mathlib.Core.Path.{_≡_, refl, sym, ap, ap₂, _∙_}
 use mathlib.Core.Bool.{Bool, true, false, not, _&&_, cond, Bool·beq, true≢false, false≢true}

@@ -4,26 +4,23 @@
 --   demand           any list of calls
 -- Assumes nothing.
 use mathlib.Core.Path.{_≡_, refl, sym, ap, _∙_, subst}
-use mathlib.Core.Bool.{Bool, true, false, not, _||_, true≢false}
+use mathlib.Core.Bool.{Bool, true, false, true≢false}
 use mathlib.Core.Logic.{_⊎_, inl, inr}
 use mathlib.Core.Option.{Option, none, some}
 use mathlib.Core.List.{List, [], _∷_, _++_}
 use lib.ListN.{length, take}
-use lib.Dec.{eqb, ltb}
 use Prim.Native.Nat.{ℕ, zero, suc, _+_, _*_, _≤_}
 use native.Mathlib.Omega.{arith}
-use borrow.Author.Tests.{ltb-false, ne-eqb}
 use Rattle.gf2.specs.Rows.{Var}
 use Rattle.gf2.specs.Answers.{Literal, Position, opened, unsatisfiable, OpenAnswer, AnswersOpen, AssumeAnswer, held, conflict, implied, AnswersAssume, moved, ExplainAnswer, AnswersExplain, Explanation, Unexplained, withdrawn}
 use Rattle.gf2.specs.History.{Event, opens, assumes, backs, explains, refused, after, Right, Runs, at-end}
 use Rattle.gf2.proofs.Literals.{of-range}
 use Rattle.format.specs.Refusals.{refusal}
 use Rattle.format.specs.Sheet.{nOf, sheetRows}
-use Rattle.format.proofs.Refusing.{accepted, none-either}
 use Rattle.linear.proofs.Joined.{codes-length}
 use Rattle.judge.specs.declared.Header.{Header}
-use Rattle.judge.specs.Checks.{closed, assumeChecks, backChecks, explainChecks}
-use Rattle.judge.proofs.Closed.{closed-fit}
+use Rattle.judge.specs.Checks.{assumeChecks, explainChecks}
+use Rattle.judge.proofs.Judged.{back-judged, assume-judged, explain-judged}
 use Rattle.parity.specs.declared.Opening.{Opening}
 use Rattle.parity.specs.declared.Opening.the-variants.{OpenRefused, Unsatisfiable, Opened}
 use Rattle.parity.specs.declared.Assuming.{Assuming}
@@ -53,19 +50,7 @@ none-some {A = A} x e = true≢false (sym (ap empty e))
     empty (some z) = true
 
 literal-of : (h : Header) (words room code : ℕ) → refusal (assumeChecks h words room code) ≡ 0 → Literal (h .n) code
-literal-of h words room code e =
-    let f = none-either (ltb code 2) (ltb (2 * h .n + 1) code) (accepted (assumeChecks h words room code) refl e .1 .1 .1 .0) in
-    let lo = ltb-false code 2 (f .0) in
-    let hi = ltb-false (2 * h .n + 1) code (f .1) in
-    of-range (h .n) code lo (omega arith)
-
-variable-of : (h : Header) (words codes numbers v : ℕ) → refusal (explainChecks h words codes numbers v) ≡ 0 → Var (h .n) v
-variable-of h words codes numbers v e =
-    let f = none-either (ltb v 1) (ltb (h .n) v) (accepted (explainChecks h words codes numbers v) refl e .1 .1 .1 .0) in
-    record { low = ltb-false v 1 (f .0); high = ltb-false (h .n) v (f .1) }
-
-depth-of : (h : Header) (words depth : ℕ) → refusal (backChecks h words depth) ≡ 0 → depth ≤ h .depth
-depth-of h words depth e = ltb-false (h .depth) depth (accepted (backChecks h words depth) refl e .1 .1 .0)
+literal-of h words room code e = let j = assume-judged h words room code e in of-range (h .n) code (j .3) (let hi = j .4 in omega arith)
 
 -- ---- open
 open-step : (s₀ : Option Position) (h : Header) (work s store literals rows store′ literals′ rows′ : List ℕ) (answer : Opening) (h′ : Header) (work′ : List ℕ) → Matches h work s₀
@@ -107,20 +92,20 @@ assume-step s₀ h work code literals literals′ answer h′ work′ m p = go (
     go : ((c : ℕ) × (refusal (assumeChecks h (length work) (length literals) code) ≡ suc c)) ⊎ (refusal (assumeChecks h (length work) (length literals) code) ≡ 0) → (s : Option Position) → Matches h work s
         → Right s (assumeEvent code answer literals′) × Matches h′ work′ (after s (assumeEvent code answer literals′))
     go (inl w) s m = let e = p .refused (w .0) (w .1) in rw (e .0) (tt, rw (e .1, e .2) m)
-    go (inr z) none m = absurd (m (closed-fit h (accepted (assumeChecks h (length work) (length literals) code) refl z .0) .is-open))
+    go (inr z) none m = absurd (m (assume-judged h (length work) (length literals) code z .0 .is-open))
     go (inr z) (some q) m = right-step q m (literal-of h (length work) (length literals) code z) answer (p .right z q m)
 
 -- ---- back
 back-step : (s₀ : Option Position) (h : Header) (work : List ℕ) (depth number : ℕ) (h′ : Header) (work′ : List ℕ) → Matches h work s₀ → BackPromise h work depth number h′ work′
     → Right s₀ (backEvent depth number) × Matches h′ work′ (after s₀ (backEvent depth number))
 back-step s₀ h work depth (suc c) h′ work′ m p = let e = p .refused c refl in (tt, rw (e .0, e .1) m)
-back-step none h work depth zero h′ work′ m p = absurd (m (closed-fit h (accepted (backChecks h (length work) depth) refl (sym (p .answer)) .0) .is-open))
+back-step none h work depth zero h′ work′ m p = absurd (m (back-judged h (length work) depth (sym (p .answer)) .0 .is-open))
 back-step (some q) h work depth zero h′ work′ m p = (deep, p .right refl q m)
   where
     deep : depth ≤ length (q .taken)
     deep =
         let e : length (q .taken) ≡ h .depth = ap (λ (z : Position). length (z .taken)) (m .here) ∙ codes-length (h .depth) (m .var) (m .val) in
-        let l = depth-of h (length work) depth (sym (p .answer)) in
+        let l = back-judged h (length work) depth (sym (p .answer)) .2 in
         omega arith
 
 -- ---- explain
@@ -137,8 +122,8 @@ explain-step s₀ h work v clause rows clause′ rows′ answer m p = go (refuse
     go : ((c : ℕ) × (refusal (explainChecks h (length work) (length clause) (length rows) v) ≡ suc c)) ⊎ (refusal (explainChecks h (length work) (length clause) (length rows) v) ≡ 0) → (s : Option Position) → Matches h work s
         → Right s (explainEvent v answer clause′ rows′) × Matches h work (after s (explainEvent v answer clause′ rows′))
     go (inl w) s m = let e = p .refused (w .0) (w .1) in rw (e .0) (tt, m)
-    go (inr z) none m = absurd (m (closed-fit h (accepted (explainChecks h (length work) (length clause) (length rows) v) refl z .0) .is-open))
-    go (inr z) (some q) m = right-step q m (variable-of h (length work) (length clause) (length rows) v z) answer (p .right z q m)
+    go (inr z) none m = absurd (m (explain-judged h (length work) (length clause) (length rows) v z .0 .is-open))
+    go (inr z) (some q) m = right-step q m (explain-judged h (length work) (length clause) (length rows) v z .4) answer (p .right z q m)
 
 -- ---- any calls
 called-step : (s : Option Position) {h h′ : Header} {work work′ : List ℕ} → Matches h work s → (c : Called h work h′ work′) → Right s (event c) × Matches h′ work′ (after s (event c))

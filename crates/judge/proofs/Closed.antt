@@ -54,6 +54,3 @@ closed-fit h e =
       kept = ltb-false (min (h .n) (h .m)) (h .kept) (d .0);
       depth = ltb-false (h .n) (h .depth) (d .1);
     }
-
-pub fit-closed : (h : Header) → Fit h → closed h ≡ false
-fit-closed h f = sym (by-depth h (f .is-open) (f .vars) (f .rows) (f .kept)) ∙ le-ltb (h .n) (h .depth) (f .depth)

@@ -1,4 +1,9 @@
--- A2 and A5: what assuming a literal answers, and what it leaves.
+-- ASSUMING A LITERAL on a made state: what it answers, and what it leaves.
+--   passed                    where the rows come from after an exchange
+--   given, conflicts          what is known is what follows; what contradicts it is a conflict
+--   satisfiable               some assignment satisfies the sheet and the literals
+--   partner                   an unknown basic variable has an unknown partner in its row that is not basic
+--   exchange-made, exchange-frees, taken-more   the exchange, and one literal more
 -- Assumes nothing.
 use mathlib.Core.Path.{_≡_, refl, sym, ap, ap₂, _∙_}
 use mathlib.Core.Bool.{Bool, true, false, not, _&&_, cond, true≢false, false≢true}
@@ -65,7 +70,7 @@ module _ (n m : ℕ) (Sheet : ℕ → Row) (kept : ℕ → Bool) (d : ℕ) (x : 
       go c (inr h) = let s = some h in absurd (c (s .0) (built-sat n m Sheet kept k R β S (w .built) (s .0) .0 (s .1)) (more (s .0) (s .2) (s .3)))
       go c (inl h) = (h, λ e. let s = satisfiable in c (s .0) (s .1) (more (s .0) (s .2) (given v b mv .0 (h, e) (s .0) (s .1) (s .2))))
 
-  -- ---- A5: an unassigned basic variable has an unassigned partner, which is not basic
+  -- ---- an unassigned basic variable has an unassigned partner, which is not basic
   pub partner : (r : ℕ) → r < k → known (β r) ≡ false → (u : ℕ) × Var n u × (R r u ≡ true) × (u ≢ β r) × (known u ≡ false) × NonBasic k β u
   partner r l h =
       let o = row-open n k R β (w .built .tableau) A known truth (w .settled) r l h in
@@ -125,25 +130,6 @@ module _ (n m : ℕ) (Sheet : ℕ → Row) (kept : ℕ → Bool) (d : ℕ) (x : 
       distinct i j h g e (inl p) (inr q) = absurd (new j (omega arith) (sym e ∙ ap x′ p ∙ at-d))
       distinct i j h g e (inr p) (inl q) = absurd (new i (omega arith) (e ∙ ap x′ q ∙ at-d))
       distinct i j h g e (inr p) (inr q) = w .taken .distinct i j (omega arith) (omega arith) (sym (same-below i (omega arith)) ∙ e ∙ same-below j (omega arith))
-
--- the assumptions after one more, as the definitions have it
-pub literals-more : (d : ℕ) (x x′ : ℕ → ℕ) (y y′ : ℕ → Bool) (v : ℕ) (b : Bool) → ((j : ℕ) → j < d → x′ j ≡ x j) → ((j : ℕ) → j < d → y′ j ≡ y j) → x′ d ≡ v → y′ d ≡ b
-    → (u : ℕ) (c : Bool) → Literals (suc d) x′ y′ u c ↔ And (Literals d x y) v b u c
-literals-more d x x′ y y′ v b ex ey xd yd u c = (λ z. to z (same-dec (z .0) d), from)
-  where
-    to : (z : Literals (suc d) x′ y′ u c) → (z .0 ≡ d) ⊎ (z .0 ≢ d) → And (Literals d x y) v b u c
-    to z (inl e) = inr (sym (z .2) ∙ ap x′ e ∙ xd, sym (z .3) ∙ ap y′ e ∙ yd)
-    to z (inr e) = let l : z .0 < d = below (z .0) (z .1) e in inl (z .0, l, sym (ex (z .0) l) ∙ z .2, sym (ey (z .0) l) ∙ z .3)
-      where
-        below : (j : ℕ) → j < suc d → j ≢ d → j < d
-        below j h ne = omega arith
-
-    from : And (Literals d x y) v b u c → Literals (suc d) x′ y′ u c
-    from (inl z) = (z .0, let h = z .1 in omega arith, ex (z .0) (z .1) ∙ z .2, ey (z .0) (z .1) ∙ z .3)
-    from (inr z) = (d, omega arith, xd ∙ sym (z .0), yd ∙ sym (z .1))
-
-pub implied-same : (n m : ℕ) (Sheet : ℕ → Row) (A B : Assumptions) → ((u : ℕ) (c : Bool) → A u c ↔ B u c) → (v : ℕ) (b : Bool) → Implied n m Sheet A v b ↔ Implied n m Sheet B v b
-implied-same n m Sheet A B h v b = (λ i a s g. i a s (λ u c z. g u c (h u c .0 z)), λ i a s g. i a s (λ u c z. g u c (h u c .1 z)))
 
 -- ---- the list: known afterwards, not known before, not v itself
 module _ (n m : ℕ) (Sheet : ℕ → Row) (kept : ℕ → Bool) (d : ℕ) (x : ℕ → ℕ) (y : ℕ → Bool) (k : ℕ) (R : ℕ → Row) (β : ℕ → ℕ) (S : ℕ → ℕ → Bool) (known truth : ℕ → Bool)

@@ -1,4 +1,7 @@
--- An exchange of two variables that have no value keeps the values settled: what `assume` does before it sets a basic variable.
+-- AN EXCHANGE of two variables that have no value keeps the values settled: what assuming a basic variable does first.
+--   at-or-not                     at one row, and at any other
+--   repoint-.., pivot-keeps       what changes and what does not
+--   exchange-settled
 -- Assumes nothing.
 use mathlib.Core.Path.{_≡_, refl, sym, ap, ap₂, _∙_, subst, fun-ext}
 use mathlib.Core.Bool.{Bool, true, false, not, _&&_, cond, and-false, and-true, true≢false, false≢true}
@@ -80,6 +83,5 @@ module _ (n k : ℕ) (R : ℕ → Row) (β : ℕ → ℕ) (t : Tableau n k R β)
   exchange-free v y h kv =
       s .free v y (at-or-not k p (λ r. β r ≢ v) (λ z. clash _ kv (rw (← z) kp)) (λ r x d. rw (repoint-other β p u r d) at (h r x))) kv
 
-  -- THEOREM 4, with values
   pub exchange-settled : Settled n k (pivot R p u) (repoint β p u) A known truth
   exchange-settled = record { assumed = s .assumed; free = exchange-free; basic-if = exchange-if; basic-only-if = exchange-only-if; basic-value = exchange-value }

@@ -1,5 +1,4 @@
 -- THE EXPLANATION OF A BASIC VARIABLE IS ITS ROW, on a made state, in the definitions' words.
---   scanned-same     two scans that agree on 1 .. n list the same
 --   made-explains    row p, whose basic variable has a value: its provenance and its other variables are what explain answers
 --   made-no-value, made-assumed, made-explained   refusal 10, read off the state: no value; basic in no row; neither
 -- Assumes nothing.
@@ -18,7 +17,7 @@ use Rattle.gf2.proofs.Lists.{all-at}
 use Rattle.gf2.proofs.Literals.{code-variable, code-value}
 use Rattle.gf2.proofs.Decide.{Fits, all-append}
 use Rattle.gf2.proofs.Chosen.{chosen, placed, chosen-part, chosen-total}
-use Rattle.gf2.proofs.Scans.{one-if, scanned}
+use Rattle.gf2.proofs.Scans.{scanned, scanned-same}
 use Rattle.gf2.proofs.RowExplains.{cite, Distinct, row-explains}
 use Rattle.gf2.proofs.Values.{Values, negations-listed}
 use Rattle.gf2.proofs.Sure.{explains-implied}
@@ -29,16 +28,6 @@ use Rattle.linear.proofs.Insert.{reason}
 use Rattle.linear.proofs.Opening.{no-failure}
 use Rattle.linear.proofs.Joined.{all-codes, code-in, made-values, made-solution}
 use Rattle.linear.proofs.Taking.{takes-kept}
-
-pub scanned-same : (n : ℕ) (t t′ b b′ : ℕ → Bool) → ((v : ℕ) → Var n v → t v ≡ t′ v) → ((v : ℕ) → Var n v → b v ≡ b′ v) → scanned n t b ≡ scanned n t′ b′
-unfolding scanned
-scanned-same zero t t′ b b′ f g = refl
-scanned-same (suc n) t t′ b b′ f g =
-    rw (
-      scanned-same n t t′ b b′ (λ v l. f v (record { low = l .low; high = let h = l .high in omega arith })) (λ v l. g v (record { low = l .low; high = let h = l .high in omega arith })),
-      f (suc n) (record { low = omega arith; high = omega arith }),
-      g (suc n) (record { low = omega arith; high = omega arith }),
-    )
 
 distinct-end : (ls : List ℕ) (l : ℕ) → Distinct ls → All (λ k. variable k ≢ variable l) ls → Distinct (ls ++ (l ∷ []))
 distinct-end [] l d h = (tt, tt)

@@ -1,4 +1,8 @@
--- A new row into a tableau, and where the rows come from.
+-- A NEW ROW into a tableau, and where the rows come from.
+--   extend-.., reduce-..          one row more; a row with its basic variables removed
+--   insert-tableau, insert-sat    the tableau and its solutions afterwards
+--   combine-..                    sums of sums
+--   pivot-provenance, reduce-provenance   where the rows come from; reason: the other variables of a row that gives a value are assumed
 -- Assumes nothing.
 use mathlib.Core.Path.{_≡_, refl, sym, ap, ap₂, _∙_, subst, fun-ext}
 use mathlib.Core.Bool.{Bool, true, false, not, _&&_, cond, and-false, and-true, and-comm, and-assoc, true≢false, false≢true}

@@ -2,13 +2,14 @@
 --   all-codes, solves-iff, implied-iff   satisfied and implied, by places and by lists
 --   made-values                          the values of a made state are those of its position (gf2, Values)
 --   made-solution                        and some assignment solves it
---   codes-more, codes-fewer              one literal more; the first d of them
+--   codes-length, codes-same, codes-fewer   how many; by equal literals; the first d of them
 -- Assumes nothing.
 use mathlib.Core.Path.{_≡_, refl, sym, ap, ap₂, _∙_}
 use mathlib.Core.Bool.{Bool, true, false, not, _&&_}
 use mathlib.Core.Logic.{_⊎_, inl, inr, _≢_, _↔_}
 use mathlib.Core.List.{List, [], _∷_, _++_, append-nil}
 use lib.ListN.{length, take, length-append}
+use lib.Seq.{take-all, take-append-le}
 use Prim.Native.Nat.{ℕ, zero, suc, _+_, _<_, _≤_}
 use native.Mathlib.Nat.{not-suc-le-zero}
 use native.Mathlib.Omega.{arith}
@@ -73,30 +74,17 @@ unfolding codesOf
 codes-same zero x x′ y y′ f g = refl
 codes-same (suc d) x x′ y y′ f g = rw (codes-same d x x′ y y′ (λ j l. f j (omega arith)) (λ j l. g j (omega arith)), f d (omega arith), g d (omega arith))
 
-take-all : (ls : List ℕ) (d : ℕ) → length ls ≡ d → take d ls ≡ ls
-take-all [] zero h = refl
-take-all [] (suc d) h = refl
-take-all (l ∷ ls) zero h = absurd (omega arith)
-take-all (l ∷ ls) (suc d) h = ap (λ (ks : List ℕ). l ∷ ks) (take-all ls d (omega arith))
-
-take-front : (ls ks : List ℕ) (d : ℕ) → d ≤ length ls → take d (ls ++ ks) ≡ take d ls
-take-front [] [] zero h = refl
-take-front [] (k ∷ ks) zero h = refl
-take-front [] ks (suc d) h = absurd (omega arith)
-take-front (l ∷ ls) ks zero h = refl
-take-front (l ∷ ls) ks (suc d) h = ap (λ (js : List ℕ). l ∷ js) (take-front ls ks d (omega arith))
-
 pub codes-fewer : (d c : ℕ) (x : ℕ → ℕ) (y : ℕ → Bool) → d ≤ c → take d (codesOf c x y) ≡ codesOf d x y
 unfolding codesOf
-codes-fewer d zero x y h = let e : 0 ≡ d = omega arith in rw (sym e) (take-all (codesOf 0 x y) 0 (codes-length 0 x y))
+codes-fewer d zero x y h = let e : 0 ≡ d = omega arith in rw (sym e) refl
 codes-fewer d (suc c) x y h = go (same-dec d (suc c)) (codes-fewer d c x y)
   where
     go : (d ≡ suc c) ⊎ (d ≢ suc c) → (d ≤ c → take d (codesOf c x y) ≡ codesOf d x y) → take d (codesOf (suc c) x y) ≡ codesOf d x y
-    go (inl e) f = rw e (take-all (codesOf (suc c) x y) (suc c) (codes-length (suc c) x y))
+    go (inl e) f = rw e (take-all (suc c) (codesOf (suc c) x y) (let k = codes-length (suc c) x y in omega arith))
     go (inr e) f = drop-last (omega arith) ∙ f (omega arith)
       where
         drop-last : d ≤ c → take d (codesOf (suc c) x y) ≡ take d (codesOf c x y)
-        drop-last l = take-front (codesOf c x y) (code (x c) (y c) ∷ []) d (rw (codes-length c x y) l)
+        drop-last l = take-append-le d (codesOf c x y) (code (x c) (y c) ∷ []) (rw (codes-length c x y) l)
 
 -- ---- satisfied and implied
 module _ (n m : ℕ) (Sheet : ℕ → Row) (d : ℕ) (x : ℕ → ℕ) (y : ℕ → Bool) where

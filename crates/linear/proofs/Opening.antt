@@ -1,4 +1,9 @@
--- A1: opening, one row of the sheet after another.
+-- OPENING, one row of the sheet after another: what is left of a row when it is reduced decides whether it is kept, redundant or contradictory.
+--   reduce-more                                  one turn of the loop that reduces a row
+--   span-..                                      sums of rows
+--   built-none, skip-built, fails, insert-built  the start, and the three ways of a row
+--   no-failure                                   no row before fails
+--   taken-none                                   nothing is taken at the end
 -- Assumes nothing.
 use mathlib.Core.Path.{_≡_, refl, sym, ap, ap₂, _∙_, fun-ext}
 use mathlib.Core.Bool.{Bool, true, false, not, _&&_, cond, and-true, and-false, and-assoc, true≢false, false≢true}
@@ -11,7 +16,7 @@ use Rattle.linear.specs.State.{one-if, Earlier, Summed, Kept, tally, Bui
 use Rattle.gf2.specs.Rows.{Var, Row, Assignment, rowSum, Holds, SameRow, SameCoefs}
 use Rattle.linear.specs.Systems.{Assumptions, Agrees, Implied, Conflict, Literals, Sat, combine, Spanned, Tableau, NonBasic, Settled, Provenance, pivot, repoint, reduce, extend}
 use Rattle.gf2.proofs.Field.{field, xor-false, xor-self, xor-eq, eq-xor, xor-cancel, xor-assoc}
-use Rattle.gf2.proofs.Sums.{sum-cong, sum-false, same-dec, same-refl, same-ne, same-eq, bool-dec}
+use Rattle.gf2.proofs.Sums.{sum-last, sum-cong, sum-false, same-dec, same-refl, same-ne, same-eq, bool-dec}
 use Rattle.gf2.proofs.Sat.{row-cong, row-and}
 use Rattle.linear.proofs.Combine.{sum-of-combine, combine-xor}
 use Rattle.linear.proofs.Tableaux.{solve, solve-sat}
@@ -22,11 +27,6 @@ use Rattle.linear.proofs.Spans.{span-sum, span-same, span-trans, span-h
 use Rattle.linear.proofs.Assuming.{passed}
 
 -- ---- a sum, and its last part
-pub sum-last : (n : ℕ) (f : ℕ → Bool) → xsum (suc n) f ≡ xsum n f ⊕ f n
-unfolding xsum
-sum-last zero f = xor-false (f 0)
-sum-last (suc n) f = ap (λ (z : Bool). f 0 ⊕ z) (sum-last n (λ i. f (suc i))) ∙ sym (xor-assoc (f 0) _ _)
-
 -- a turn of the loop that reduces a row: row r is added where its basic variable stands
 pub reduce-more : (n k : ℕ) (R : ℕ → Row) (β : ℕ → ℕ) → Tableau n k R β → (c : Row) (r : ℕ) → r < k → (v : ℕ)
     → reduce (suc r) R β c v ≡ reduce r R β c v ⊕ (reduce r R β c (β r) && R r v)
@@ -228,12 +228,6 @@ module _ (n m : ℕ) (Sheet : ℕ → Row) (kept : ℕ → Bool) (kp : Kept n m 
         }
 
 -- ---- a failing row: which it is, and which rows, is determined
-pub fails-once : (n m : ℕ) (Sheet : ℕ → Row) (kept : ℕ → Bool) → Kept n m Sheet kept → (q : ℕ) → q ≤ m → (s t : ℕ → Bool) → Fails n m Sheet kept q s → Fails n m Sheet kept q t → (j : ℕ) → s j ≡ t j
-fails-once n m Sheet kept kp q l s t f g j =
-    xor-eq _ _
-    (kept-independent n m Sheet kept kp (λ i. s i ⊕ t i) (λ i e. let h = earlier-xor kept q s t (f .sum .0) (g .sum .0) i e in (let x = h .0 in omega arith, h .1))
-    (λ v x. combine-xor m s t Sheet v ∙ eq-xor _ _ (f .sum .1 v x ∙ sym (g .sum .1 v x))) j)
-
 -- no row before q fails
 pub no-failure : (n m : ℕ) (Sheet : ℕ → Row) (kept : ℕ → Bool) (q k : ℕ) (R : ℕ → Row) (β : ℕ → ℕ) (S : ℕ → ℕ → Bool) → Built n m Sheet kept q k R β S
     → (j : ℕ) → j < q → (s : ℕ → Bool) → Fails n m Sheet kept j s → ⊥
@@ -248,14 +242,6 @@ no-failure n m Sheet kept q k R β S b j l s f = f .parity (sym holds ∙ row-co
     holds : Holds n (combine m s Sheet) a
     holds = span-holds n k R (combine m s Sheet) a (span-chosen n m k Sheet R s (λ i e. b .cover i (let h = f .sum .0 i e .0 in omega arith))) (solve-sat n k R β (b .tableau) (λ v. false))
 
--- a failing row: no solution
-pub fails-conflict : (n m : ℕ) (Sheet : ℕ → Row) (kept : ℕ → Bool) (q : ℕ) → q < m → (s : ℕ → Bool) → Fails n m Sheet kept q s → (A : Assumptions) → Conflict n m Sheet A
-fails-conflict n m Sheet kept q l s f A a h g =
-    f .parity (sym (span-holds n m Sheet (combine m s Sheet) a (s, λ v x. refl) h) ∙ row-cong n (combine m s Sheet) (Sheet q) a (f .sum .1) ∙ h q l)
-
 -- ---- nothing is taken at the end
 pub taken-none : (n : ℕ) (x : ℕ → ℕ) (k : ℕ) (β : ℕ → ℕ) → Taken n 0 x k β
 taken-none n x k β = record { var = λ j l. absurd (not-suc-le-zero l); distinct = λ i j l h e. absurd (not-suc-le-zero l); apart = λ j l. absurd (not-suc-le-zero l) }
-
-pub started-none : (n : ℕ) (x : ℕ → ℕ) (y known truth : ℕ → Bool) → ((v : ℕ) → Var n v → known v ≡ false) → Started n 0 x y known truth
-started-none n x y known truth h = record { on = λ j l. absurd (not-suc-le-zero l); off = λ v mv e. absurd (clash (known v) e (h v mv)) }

@@ -1,4 +1,7 @@
--- Kept rows and taken literals together are no more than the variables: the bounds that refusal 11 and the record ask for.
+-- KEPT ROWS AND TAKEN LITERALS together are no more than the variables: the bounds that refusal 11 and the record ask for.
+--   pigeon     d different numbers below n: d is at most n
+--   room       kept rows and taken literals
+--   tally-le   the kept count is at most the number of rows
 -- Assumes nothing.
 use mathlib.Core.Path.{_≡_, refl, sym, ap, _∙_}
 use mathlib.Core.Bool.{Bool, true, false, cond, true≢false}

@@ -1,4 +1,6 @@
--- THEOREM 4: an exchange keeps the solutions and the tableau.
+-- AN EXCHANGE keeps the solutions and the tableau (document 003).
+--   add-holds, pivot-own          one row added to another; the row of the exchange stays
+--   pivot-sat, pivot-tableau
 -- Assumes nothing.
 use mathlib.Core.Path.{_≡_, refl, sym, ap, ap₂, _∙_, subst, fun-ext}
 use mathlib.Core.Bool.{Bool, true, false, not, _&&_, cond, and-false, and-true, and-comm, and-assoc, true≢false, false≢true}

@@ -1,4 +1,6 @@
--- A3 and the last step of A1 and A2: settling after the taken literals are set makes the state.
+-- SETTLING after the taken literals are set makes the state.
+--   settle-made    the last step of open, assume and back
+--   taken-fewer    going back keeps what is asked of the literals
 -- Assumes nothing.
 use mathlib.Core.Path.{_≡_, refl, sym, ap, ap₂, _∙_}
 use mathlib.Core.Bool.{Bool, true, false, not, _&&_, true≢false}
@@ -47,10 +49,3 @@ taken-fewer n d c x k β l t =
       distinct = λ i j h g e. t .distinct i j (omega arith) (omega arith) e;
       apart = λ j h. t .apart j (omega arith);
     }
-
--- A3
-pub back-made : (n m : ℕ) (Sheet : ℕ → Row) (kept : ℕ → Bool) (d : ℕ) (x : ℕ → ℕ) (y : ℕ → Bool) (k : ℕ) (R : ℕ → Row) (β : ℕ → ℕ) (S : ℕ → ℕ → Bool) (known truth : ℕ → Bool)
-    → Made n m Sheet kept d x y k R β S known truth → (c : ℕ) → c ≤ d → (known₀ truth₀ known′ truth′ : ℕ → Bool)
-    → Started n c x y known₀ truth₀ → Finished n k R β known₀ truth₀ known′ truth′ → Made n m Sheet kept c x y k R β S known′ truth′
-back-made n m Sheet kept d x y k R β S known truth w c l known₀ truth₀ known′ truth′ s f =
-    settle-made n m Sheet kept k R β S (w .built) c x y (taken-fewer n d c x k β l (w .taken)) known₀ truth₀ known′ truth′ s f

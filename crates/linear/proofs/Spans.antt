@@ -1,4 +1,9 @@
--- Sums of sums; the rows that a tableau was built from have its solutions.
+-- SUMS OF SUMS; the rows that a tableau was built from have its solutions.
+--   span-..                        sums of spanned rows
+--   earlier-..                     selections of kept rows
+--   kept-independent               kept rows are independent
+--   built-sat, implied-sheet       the same solutions, the same implied values
+--   pivot-span                     the rows before an exchange are sums of those after it
 -- Assumes nothing.
 use mathlib.Core.Path.{_≡_, refl, sym, ap, ap₂, _∙_}
 use mathlib.Core.Bool.{Bool, true, false, not, _&&_, and-false, and-true, and-comm, and-assoc, true≢false, false≢true}

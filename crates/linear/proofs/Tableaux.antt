@@ -1,4 +1,9 @@
--- THEOREM 2: the values that a tableau gives are exactly those that follow.
+-- THE VALUES THAT A TABLEAU GIVES are exactly those that follow.
+--   solve, solve-sat       an assignment with its basic variables changed so that the rows hold
+--   basic-dec, other-free  which variables are basic
+--   known-implied          a value that is given follows
+--   unknown-differs        where none is given, two solutions differ
+--   solution, complete     consistent and complete
 -- Assumes nothing.
 use mathlib.Core.Path.{_≡_, refl, sym, ap, ap₂, _∙_}
 use mathlib.Core.Bool.{Bool, true, false, not, _&&_, and-false, and-true, and-comm, and-assoc, true≢false, false≢true}
@@ -196,7 +201,6 @@ module _ (n k : ℕ) (R : ℕ → Row) (β : ℕ → ℕ) (t : Tableau n k R β)
           o .2,
         )
 
-    -- THEOREM 2
     pub complete : (v : ℕ) (b : Bool) → Var n v → ((known v ≡ true) × (truth v ≡ b)) ↔ Implied n k R A v b
     complete v b m = (λ e a x y. known-implied v m (e .0) a x y ∙ e .1, λ i. go i (bool-dec (known v)))
       where

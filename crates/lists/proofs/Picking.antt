@@ -1,7 +1,7 @@
 -- A SCAN LISTS WHAT A TEST PICKS: one law for every list that answers.
 --   listed-none, listed-note      nothing looked at yet; one item more; noted-le: at most one place more
---   scanned-start, scanned-turn   a scan over variables; scanned-same: by equal tests
---   numbers-start, numbers-turn   a scan over rows; numbers-same: by equal tests
+--   scanned-start, scanned-turn   a scan over variables
+--   numbers-start, numbers-turn   a scan over rows
 --   listed-cons                   an item before a list that starts at place 1
 --   listed-take                   the used part of the buffer is the list
 --   vals-at                       the value of a variable by its bit
@@ -24,7 +24,7 @@ use Rattle.gf2.specs.Field.{same}
 use Rattle.gf2.specs.Rows.{Var}
 use Rattle.gf2.specs.Answers.{code}
 use Rattle.gf2.proofs.Sums.{same-refl, same-ne}
-use Rattle.gf2.proofs.Scans.{one-if, scanned}
+use Rattle.gf2.proofs.Scans.{scanned-same, one-if, scanned}
 use Rattle.words.specs.Words.{bitOf, bitAt}
 use Rattle.words.proofs.Bits.{zero-bits}
 use Rattle.tableau.specs.Layout.{rowAt, knownAt}
@@ -77,24 +77,6 @@ pub scanned-turn : (most at u : ℕ) (t f : ℕ → Bool) (out o o′ : List ℕ
 unfolding scanned
 scanned-turn most at u t f out o o′ c x pick item h ep ei room big w = rw (add-one u) (rw (ep, ei, add-one u) at (listed-note most at (scanned u t f) out o o′ c x pick item h room big w))
 
-pub scanned-same : (n : ℕ) (t t′ f f′ : ℕ → Bool) → ((u : ℕ) → Var n u → t u ≡ t′ u) → ((u : ℕ) → Var n u → t u ≡ true → f u ≡ f′ u) → scanned n t f ≡ scanned n t′ f′
-unfolding scanned
-scanned-same zero t t′ f f′ e g = refl
-scanned-same (suc n) t t′ f f′ e g =
-    ap₂ _++_ (scanned-same n t t′ f f′ (λ u m. e u (wide u m)) (λ u m. g u (wide u m))) (go (t (suc n)) (t′ (suc n)) (e (suc n) top) (λ h. g (suc n) top h))
-  where
-    wide : (u : ℕ) → Var n u → Var (suc n) u
-    wide u m = record { low = m .low; high = let h = m .high in omega arith }
-
-    top : Var (suc n) (suc n)
-    top = record { low = omega arith; high = omega arith }
-
-    go : (p q : Bool) → p ≡ q → (p ≡ true → f (suc n) ≡ f′ (suc n)) → one-if p (code (suc n) (f (suc n))) ≡ one-if q (code (suc n) (f′ (suc n)))
-    go true true h k = ap (λ (z : Bool). code (suc n) z ∷ []) (k refl)
-    go true false h k = absurd (true≢false h)
-    go false true h k = absurd (false≢true h)
-    go false false h k = refl
-
 -- ---- scans over rows
 pub numbers-start : (most at : ℕ) (t : ℕ → Bool) (out : List ℕ) → at ≤ most → Listed most at (numbers 0 t) out out at
 unfolding numbers
@@ -104,11 +86,6 @@ pub numbers-turn : (most at j : ℕ) (t : ℕ → Bool) (out o o′ : List ℕ) 
     → (pick ≡ true → c < most) → most ≤ length out → Noted pick (j + 1) c o o′ x → Listed most at (numbers (j + 1) t) out o′ x
 unfolding numbers
 numbers-turn most at j t out o o′ c x pick h ep room big w = rw (add-one j) (rw (ep, add-one j) at (listed-note most at (numbers j t) out o o′ c x pick (j + 1) h room big w))
-
-pub numbers-same : (m : ℕ) (t t′ : ℕ → Bool) → ((j : ℕ) → j < m → t j ≡ t′ j) → numbers m t ≡ numbers m t′
-unfolding numbers
-numbers-same zero t t′ e = refl
-numbers-same (suc m) t t′ e = ap₂ _++_ (numbers-same m t t′ (λ j l. e j (omega arith))) (ap (λ (b : Bool). one-if b (suc m)) (e m (omega arith)))
 
 -- ---- the whole list
 pub listed-cons : (most : ℕ) (l out o : List ℕ) (x y : ℕ) → 0 < length out → Listed most 1 l (set out 0 y) o x → Listed most 0 (y ∷ l) out o x
@@ -173,7 +150,7 @@ new-all k work zero pos = absurd (not-suc-le-zero pos)
 new-all k work (suc i) pos = rw (ap (λ (x : ℕ). bitOf x (63 - i % 64)) (zeros k (0 + i / 64)) ∙ zero-bits (63 - i % 64)) (and-true (bitAt work knownAt i && true) ∙ and-true (bitAt work knownAt i))
 
 pub known-listed : (n k : ℕ) (work : List ℕ) (f : ℕ → Bool) (out o : List ℕ) (x : ℕ) → Listed n 0 (scanned n (isNew work (replicate k 0) 0) f) out o x → Listed n 0 (scanned n (vals work knownAt) f) out o x
-known-listed n k work f out o x h = rw (scanned-same n (isNew work (replicate k 0) 0) (vals work knownAt) f f (λ u m. new-all k work u (m .low)) (λ u m e. refl)) at h
+known-listed n k work f out o x h = rw (scanned-same n (isNew work (replicate k 0) 0) (vals work knownAt) f f (λ u m. new-all k work u (m .low)) (λ u m. refl)) at h
 
 module _ (work : List ℕ) (r v u : ℕ) where
   pub other-v : u ≡ v → false ≡ isOther work r v u

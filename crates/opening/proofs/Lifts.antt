@@ -16,13 +16,13 @@ use lib.ListN.{length, getD}
 use Rattle.gf2.specs.Field.{_⊕_, xsum, same}
 use Rattle.gf2.specs.Rows.{Var, Row, SameCoefs}
 use Rattle.gf2.proofs.Field.{xor-false, xor-assoc}
-use Rattle.gf2.proofs.Sums.{sum-cong, sum-false}
+use Rattle.gf2.proofs.Sums.{sum-last, sum-cong, sum-false}
 use Rattle.linear.specs.State.{Kept}
 use Rattle.linear.specs.Systems.{combine, Tableau, reduce, extend, pivot, repoint}
 use Rattle.linear.proofs.Assuming.{passed}
 use Rattle.linear.proofs.Exchange.{at-or-not, repoint-at, repoint-other}
 use Rattle.linear.proofs.Insert.{extend-at, extend-other, below}
-use Rattle.linear.proofs.Opening.{sum-last, reduce-more, left-over, others, source, skip-built, fails, insert-built}
+use Rattle.linear.proofs.Opening.{reduce-more, left-over, others, source, skip-built, fails, insert-built}
 use Rattle.words.specs.Words.{digit, bitAt}
 use Rattle.words.proofs.Bits.{bit-same, bit-added, own-at}
 use Rattle.tableau.specs.Buffer.{basicAt, parityAt, Added, Chain}

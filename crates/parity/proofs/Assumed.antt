@@ -38,7 +38,8 @@ use Rattle.parity.specs.declared.Assuming.the-variants.{AssumeRefused, H
 use Rattle.parity.specs.Promises.{Stands, AssumePromise}
 use Rattle.parity.specs.Offers.{Offered, below, full-held, full-conflict, full-refused}
 use Rattle.parity.proofs.Part.{front-long, front-bit, replaced-front, replaced-worked}
-use Rattle.parity.proofs.Listing.{listed-front, listed-used}
+use Rattle.lists.proofs.Picking.{listed-take}
+use Rattle.parity.proofs.Listing.{listed-used}
 use Rattle.parity.proofs.Offering.{offered-held, offered-conflict, offered-full, taken-answer, taken-stands}
 
 -- ---- the answers of an offer
@@ -166,7 +167,7 @@ module _ (h : Header) (work literals : List ℕ) (code : ℕ) where
         pub promise-taken : x ≡ 2 → AssumePromise h work literals code (atDepth h (h .depth + 1)) (Taken count) (w ++ drop 4096 work) literals′
         promise-taken z = record {
           refused = λ c q. absurd (not-refused c q);
-          leaves = λ q. (refl, facts .0, l .few, replaced-worked work w room e, listed-used (h .n) _ literals literals′ count l fits);
+          leaves = λ q. (refl, facts .0, l .few, replaced-worked work w room e, listed-used (h .n) _ literals literals′ count l);
           right = λ q p s. record { said = implied (take count literals′); says = refl; right = answer p s; stands = taken-stands h work p s code low high w e room (facts .0) (made-after p s z) (facts .1) (take count literals′) (answer p s) };
         }
           where
@@ -194,5 +195,5 @@ module _ (h : Header) (work literals : List ℕ) (code : ℕ) where
 
             answer : (p : Position) (s : Stands h work p) → AnswersAssume p code (implied (take count literals′))
             answer p s =
-                subst (λ (ls : List ℕ). AnswersAssume p code (implied ls)) (sym (listed-front (h .n) _ literals literals′ count l fits))
+                subst (λ (ls : List ℕ). AnswersAssume p code (implied ls)) (sym (listed-take (h .n) _ literals literals′ count l fits))
                 (taken-answer h work p s code low high w e room (facts .0) (made-after p s z) (facts .1) (isNew (w ++ drop 4096 work) old (code / 2)) (vals (w ++ drop 4096 work) truthAt) (test p s) (sign p s))

@@ -15,10 +15,10 @@ use Rattle.gf2.specs.Field.{same}
 use Rattle.gf2.specs.Rows.{Var}
 use Rattle.gf2.specs.Answers.{code, Position, ExplainAnswer, AnswersExplain, Explanation, Unexplained}
 use Rattle.gf2.proofs.Sums.{same-comm}
-use Rattle.gf2.proofs.Scans.{scanned}
+use Rattle.gf2.proofs.Scans.{scanned, scanned-same}
 use Rattle.gf2.proofs.Explained.{explanation}
 use Rattle.linear.specs.Positions.{position}
-use Rattle.linear.proofs.Explaining.{scanned-same, cited-rows, made-no-value, made-assumed, made-explains, made-explained}
+use Rattle.linear.proofs.Explaining.{cited-rows, made-no-value, made-assumed, made-explains, made-explained}
 use Rattle.format.specs.Refusals.{refusal}
 use Rattle.judge.specs.declared.Header.{Header}
 use Rattle.judge.specs.Checks.{explainChecks}
@@ -35,7 +35,8 @@ use Rattle.parity.specs.declared.Explaining.{Explaining}
 use Rattle.parity.specs.declared.Explaining.the-variants.{ExplainRefused, Explained}
 use Rattle.parity.specs.Promises.{Stands, ExplainPromise}
 use Rattle.parity.proofs.Part.{front-bit}
-use Rattle.parity.proofs.Listing.{listed-front, listed-used}
+use Rattle.lists.proofs.Picking.{listed-take}
+use Rattle.parity.proofs.Listing.{listed-used}
 use Rattle.parity.proofs.Numbering.{numbers-chosen}
 
 module _ (h : Header) (work clause rows : List ℕ) (v : ℕ) where
@@ -104,7 +105,7 @@ module _ (h : Header) (work clause rows : List ℕ) (v : ℕ) where
         → ExplainPromise h work clause rows v (Explained x y) clause′ rows′
     promise-explained r l f e clause′ rows′ x y cl nl = record {
       refused = λ c q. absurd (not-refused c q);
-      leaves = λ z. (cl .few, nl .few, listed-used (h .n) _ clause clause′ x cl fits-clause, listed-used (h .m) _ rows rows′ y nl fits-rows);
+      leaves = λ z. (cl .few, nl .few, listed-used (h .n) _ clause clause′ x cl, listed-used (h .m) _ rows rows′ y nl);
       right = λ z p s. (explained p s, (record { clause = take x clause′; numbers = take y rows′ }, refl, explanation p (s .reached) v (subst (λ (q : Position). Var (q .n) v) (sym (s .here)) mine) _ (answer p s)));
     }
       where
@@ -145,12 +146,12 @@ module _ (h : Header) (work clause rows : List ℕ) (v : ℕ) where
         clause-is : (p : Position) (s : Stands h work p)
             → take x clause′ ≡ code (s .made .β r) (s .made .truth (s .made .β r)) ∷ scanned (h .n) (λ u. s .made .R r u && not (same (s .made .β r) u)) (λ u. not (s .made .truth u))
         clause-is p s =
-            listed-front (h .n) _ clause clause′ x cl fits-clause
+            listed-take (h .n) _ clause clause′ x cl fits-clause
             ∙ ap₂ _∷_ (ap₂ code (sym (basic p s)) (truth-is p s ∙ ap (s .made .truth) (sym (basic p s)))) (scanned-same (h .n) (isOther work r v) _ (λ u. not (vals work truthAt u)) _ (row-bit p s) (sign-bit p s))
 
         rows-are : (p : Position) (s : Stands h work p)
             → take y rows′ ≡ map (λ c. c .number) (cited-rows (h .n) (h .m) (s .Sheet) (s .kept) (h .depth) (s .var) (s .val) (h .kept) (s .made .R) (s .made .β) (s .made .S) (s .made .known) (s .made .truth) (s .made .made) (s .is-kept) r l (known p s))
-        rows-are p s = listed-front (h .m) _ rows rows′ y nl fits-rows ∙ numbers-chosen (h .m) (bitAt work (fromAt r)) (s .made .S r) (s .Sheet) (from-bit p s)
+        rows-are p s = listed-take (h .m) _ rows rows′ y nl fits-rows ∙ numbers-chosen (h .m) (bitAt work (fromAt r)) (s .made .S r) (s .Sheet) (from-bit p s)
 
         same-answer : (a b c d : List ℕ) → a ≡ c → b ≡ d → _≡_ {A = ExplainAnswer} (record { clause = c; numbers = d }) (record { clause = a; numbers = b })
         same-answer a b c d e f = λ i. record { clause = sym e i; numbers = sym f i }

@@ -18,7 +18,7 @@ use Rattle.gf2.specs.Rows.{Var, Assignment}
 use Rattle.gf2.specs.Answers.{code, variable, value, Literal, Position, assumed, Solves, Implied, held, conflict, implied, AnswersAssume, Reached}
 use Rattle.gf2.proofs.Sums.{same-refl, same-ne, same-dec, bool-dec}
 use Rattle.gf2.proofs.Literals.{code-of, of-range}
-use Rattle.gf2.proofs.Scans.{scanned}
+use Rattle.gf2.proofs.Scans.{scanned, scanned-same}
 use Rattle.gf2.proofs.Values.{Values, free, answers-held, answers-conflict, new-listed}
 use Rattle.gf2.proofs.Reach.{assumed-reached}
 use Rattle.linear.specs.State.{with-at, with-bool}
@@ -28,7 +28,6 @@ use Rattle.linear.proofs.Joined.{codes-same, made-values, made-solution}
 use Rattle.linear.proofs.Assuming.{partner, taken-more}
 use Rattle.linear.proofs.Pigeons.{room}
 use Rattle.linear.proofs.Tableaux.{basic-dec}
-use Rattle.linear.proofs.Explaining.{scanned-same}
 use Rattle.judge.specs.declared.Header.{Header}
 use Rattle.judge.specs.Checks.{atDepth}
 use Rattle.words.specs.Words.{bitAt}

@@ -17,7 +17,7 @@ use borrow.Author.Tests.{ltb-false}
 use Rattle.gf2.specs.Rows.{Var, Row, Rows, Assignment, Takes, failed}
 use Rattle.gf2.specs.Rows as by-list
 use Rattle.gf2.specs.Answers.{Position, start, Solves, opened, unsatisfiable, AnswersOpen}
-use Rattle.gf2.proofs.Scans.{scanned}
+use Rattle.gf2.proofs.Scans.{scanned, scanned-same}
 use Rattle.gf2.proofs.Values.{Values, known-listed}
 use Rattle.gf2.proofs.Reach.{opened-reached}
 use Rattle.gf2.specs.Field.{_⊕_, same}
@@ -29,7 +29,7 @@ use Rattle.linear.proofs.Opening.{no-failure}
 use Rattle.linear.proofs.Pigeons.{room}
 use Rattle.linear.proofs.Joined.{made-values, made-solution}
 use Rattle.linear.proofs.Taking.{takes-fails, kept-length}
-use Rattle.linear.proofs.Explaining.{scanned-same, made-kept}
+use Rattle.linear.proofs.Explaining.{made-kept}
 use Rattle.format.specs.Bits.{bitsOf}
 use Rattle.format.specs.Refusals.{refusal}
 use Rattle.format.specs.Sheet.{nOf, mOf, bitsFor, rowOf, sheetRows, storeWords, reader}
@@ -54,7 +54,8 @@ use Rattle.parity.specs.declared.Opening.the-variants.{OpenRefused, Unsa
 use Rattle.parity.specs.Promises.{Stands, nothingOpen, opensWith, openOwn, openChecks, OpenDone, OpenPromise}
 use Rattle.parity.specs.Openings.{openReading, RowsOpened, all-in, stopped}
 use Rattle.parity.proofs.Part.{front-long, front-bit, replaced-front, replaced-worked}
-use Rattle.parity.proofs.Listing.{listed-front, listed-used}
+use Rattle.lists.proofs.Picking.{listed-take}
+use Rattle.parity.proofs.Listing.{listed-used}
 use Rattle.parity.proofs.Numbering.{numbers-failed}
 
 -- ---- the answer of the checks
@@ -156,7 +157,7 @@ module _ (old : Header) (s store work literals rows : List ℕ) where
       trues (suc i) mv = let b : i < 512 = let z = mv .high in let y = judged .0 .n-small in omega arith in whole-bit ws e truthAt (omega arith) i b ∙ made .values .trues i b
 
       list-is : take x literals′ ≡ scanned (nOf s) (made .known) (made .truth)
-      list-is = listed-front (nOf s) _ literals literals′ x l (judged .2) ∙ scanned-same (nOf s) _ (made .known) _ (made .truth) knows trues
+      list-is = listed-take (nOf s) _ literals literals′ x l (judged .2) ∙ scanned-same (nOf s) _ (made .known) _ (made .truth) knows trues
 
       answer : AnswersOpen (nOf s) (sheetRows s) (opened k (take x literals′))
       unfolding codesOf
@@ -194,7 +195,7 @@ module _ (old : Header) (s store work literals rows : List ℕ) where
         done = λ q. record {
           filled = rd .store;
           worked = replaced-worked work ws (judged .1) e;
-          leaves = (refl, l .few, listed-used (nOf s) _ literals literals′ x l (judged .2), refl, stands);
+          leaves = (refl, l .few, listed-used (nOf s) _ literals literals′ x l, refl, stands);
           said = opened k (take x literals′);
           says = refl;
           right = answer;
@@ -210,7 +211,7 @@ module _ (old : Header) (s store work literals rows : List ℕ) where
         done = λ z. record {
           filled = rd .store;
           worked = replaced-worked work ws (judged .1) e;
-          leaves = (refl, l .few, refl, listed-used (mOf s) _ rows rows′ x l (judged .3));
+          leaves = (refl, l .few, refl, listed-used (mOf s) _ rows rows′ x l);
           said = unsatisfiable (take x rows′);
           says = refl;
           right = subst (λ (rs : Rows). AnswersOpen (nOf s) rs (unsatisfiable (take x rows′))) (sym same-rows)
@@ -232,7 +233,7 @@ module _ (old : Header) (s store work literals rows : List ℕ) where
           bits j h = whole-bit ws e (fromAt k) (let u = a .few in let v = a .low in let z = judged .0 .m-small in omega arith) j (let z = judged .0 .m-small in omega arith) ∙ f .2 j (let z = judged .0 .m-small in omega arith)
 
           list-is : take x rows′ ≡ map (λ r. r .number) (chosen (byNumber (f .0)) (numbered q Sheet) ++ (record { number = suc q; row = Sheet q } ∷ []))
-          list-is = listed-front (mOf s) _ rows rows′ x l (judged .3) ∙ numbers-failed q (mOf s) (bitAt (ws ++ drop 4096 work) (fromAt k)) (f .0) kept Sheet (a .low) (f .1 .sum .0) bits
+          list-is = listed-take (mOf s) _ rows rows′ x l (judged .3) ∙ numbers-failed q (mOf s) (bitAt (ws ++ drop 4096 work) (fromAt k)) (f .0) kept Sheet (a .low) (f .1 .sum .0) bits
 
     pub promise-rows : (h : Header) (answer : Opening) (work′ literals′ rows′ : List ℕ) → RowsOpened (nOf s) (mOf s) store′ work literals rows h answer work′ literals′ rows′
         → OpenPromise old s store work literals rows h answer store′ work′ literals′ rows′

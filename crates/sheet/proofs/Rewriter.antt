@@ -4,13 +4,14 @@
 --   again-determined   two results that the promise allows are the same
 -- Assumes nothing.
 use mathlib.Core.List.{List, [], _∷_, _++_}
-use mathlib.Core.Path.{_≡_, sym, ap, ap₂, _∙_}
+use mathlib.Core.Path.{_≡_, refl, sym, ap, ap₂, _∙_}
 use Prim.Native.Nat.{ℕ, _^_, _≤_, _<_}
 use native.Mathlib.Omega.{arith}
 use borrow.Author.Tests.{lt-ltb, le-ltb}
 use lib.Dec.{ltb}
 use lib.ListN.{drop, length, take, getD, take-append-drop}
-use Rattle.format.proofs.Accepted.{refusal-kept, refusal-next, reader-numbered, Accepted}
+use Rattle.format.proofs.Refusing.{append-some, append-none}
+use Rattle.format.proofs.Accepted.{Accepted}
 use Rattle.format.proofs.Bytes.{bytes-same, byte-take}
 use Rattle.format.proofs.Packed.{front-bits, back-bytes}
 use Rattle.format.proofs.Undo.{write-read}
@@ -27,10 +28,10 @@ module _ (s : List ℕ) (words bytes : ℕ) where
   pub again-refused : (c : ℕ) → reading s words ≡ Refused c → Refused c ≡ said (refusal (rewriter s words bytes)) (nOf s) (mOf s)
   again-refused c e =
       let p = read-refused s words c e in
-      ap Refused (p .2) ∙ sym (ap (λ (k : ℕ). said k (nOf s) (mOf s)) (refusal-kept (reader s words) (check 7 (ltb bytes (length s)) ∷ []) (p .0) (p .1)))
+      ap Refused (p .2) ∙ sym (ap (λ (k : ℕ). said k (nOf s) (mOf s)) (append-some (reader s words) (check 7 (ltb bytes (length s)) ∷ []) (p .0) (p .1)))
 
   passed : (n m : ℕ) → reading s words ≡ Read n m → refusal (rewriter s words bytes) ≡ refusal (check 7 (ltb bytes (length s)) ∷ [])
-  passed n m e = refusal-next (reader s words) (check 7 (ltb bytes (length s)) ∷ []) (reader-numbered s words) (sym (number-reading s words) ∙ ap number e)
+  passed n m e = append-none (reader s words) (check 7 (ltb bytes (length s)) ∷ []) refl (sym (number-reading s words) ∙ ap number e)
 
   pub again-short : (n m : ℕ) → reading s words ≡ Read n m → bytes < length s → Refused 7 ≡ said (refusal (rewriter s words bytes)) (nOf s) (mOf s)
   again-short n m e h =

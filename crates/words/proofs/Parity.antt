@@ -1,5 +1,5 @@
 -- THE SUM OF A ROW IS THE PARITY OF A COUNT OF ONES (document 01, "The row sheet"), over any number of words.
---   sum-append, sum-blocks, sum-last, sum-back   sums cut in two, cut in blocks, from the other end, and turned round
+--   sum-append, sum-blocks, sum-back   sums cut in two, cut in blocks, from the other end, and turned round
 --   par                                          whether a number is odd
 --   meet a b w                                   how many ones word w of a and word w of b share
 --   words-sum                                    the sum of the bits that two lists of words share, by these counts
@@ -22,7 +22,7 @@ use lib.ListN.{getD}
 use Rattle.gf2.specs.Field.{_⊕_, xsum}
 use Rattle.gf2.specs.Rows.{Row, Assignment, rowSum}
 use Rattle.gf2.proofs.Field.{xor-false, xor-comm, xor-assoc}
-use Rattle.gf2.proofs.Sums.{sum-cong, sum-false}
+use Rattle.gf2.proofs.Sums.{sum-last, sum-cong, sum-false}
 use Rattle.words.specs.Words.{digit, bitOf, bitAt}
 use Rattle.words.proofs.Bits.{bit-and, bit-half, bit-front}
 
@@ -42,11 +42,6 @@ sum-blocks (suc k) b f =
     (sum-append b (k * b) f
     ∙ ap₂ _⊕_ (sum-cong b f (λ j. f (0 * b + j)) (λ j l. ap f (omega arith)))
     (sum-blocks k b (λ i. f (b + i)) ∙ sum-cong k (λ w. xsum b (λ j. f (b + (w * b + j)))) (λ w. xsum b (λ j. f (suc w * b + j))) (λ w l. sum-cong b (λ j. f (b + (w * b + j))) (λ j. f (suc w * b + j)) (λ j h. ap f (omega arith)))))
-
-pub sum-last : (n : ℕ) (f : ℕ → Bool) → xsum (suc n) f ≡ xsum n f ⊕ f n
-unfolding xsum
-sum-last zero f = xor-false (f 0)
-sum-last (suc n) f = ap (λ (x : Bool). f 0 ⊕ x) (sum-last n (λ i. f (suc i))) ∙ sym (xor-assoc (f 0) (xsum n (λ i. f (suc i))) (f (suc n)))
 
 pub sum-back : (n : ℕ) (f : ℕ → Bool) → xsum (suc n) f ≡ xsum (suc n) (λ i. f (n - i))
 unfolding xsum

@@ -1,3 +1,5 @@
+-- `bits::last_bits` meets its contract.
+-- Assumes nothing.
 use native.Mathlib.Omega.{arith}
 use borrow.Author.Needs.{needs}
 use Rattle.bits.proofs.Masks.{last-calc}

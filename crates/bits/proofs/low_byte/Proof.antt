@@ -1,3 +1,5 @@
+-- `bits::low_byte` meets its contract.
+-- Assumes nothing.
 use lib.Bits.{and-mask, mask-lt}
 use Rattle.bits.proofs.low_byte.Statement.{statement}
 use Rattle.bits.proofs.low_byte.Tie as tie

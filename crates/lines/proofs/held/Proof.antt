@@ -1,3 +1,5 @@
+-- `lines::held` meets its contract.
+-- Assumes nothing.
 use borrow.Author.Needs.{needs}
 use Rattle.lines.specs.Lines.{spaced}
 use Rattle.lines.proofs.held.Statement.{statement}

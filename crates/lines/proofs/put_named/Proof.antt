@@ -1,3 +1,5 @@
+-- `lines::put_named` meets its contract.
+-- Assumes nothing.
 use borrow.Author.Needs.{needs}
 use Rattle.lines.specs.Lines.{spaced}
 use Rattle.lines.proofs.Puts.{put-then, put-text, flat}

@@ -1,3 +1,5 @@
+-- `lines::unsatisfiable` meets its contract.
+-- Assumes nothing.
 use borrow.Author.Needs.{needs}
 use Rattle.lines.proofs.Puts.{put-then}
 use Rattle.lines.proofs.unsatisfiable.Statement.{statement}

@@ -1,3 +1,5 @@
+-- `parity::assume` meets its contract.
+-- Assumes nothing.
 use mathlib.Core.Path.{_≡_, sym, _∙_}
 use lib.ListN.{length, take}
 use Prim.Native.Nat.{_+_, _*_, _≤_}
@@ -11,13 +13,6 @@ use Rattle.parity.proofs.Assumed.{taken-facts, promise-refused, promise
 use borrow.Author.Needs.{needs}
 use Rattle.parity.proofs.assume.Statement.{statement}
 use Rattle.parity.proofs.assume.Tie as tie
-use Rattle.parity.proofs.assume.Reads as reads
-use Rattle.parity.proofs.assume.Lts as lts
-use Rattle.judge.proofs.judge_assume.Reads as judge-assume-reads
-use Rattle.lists.proofs.list_new.Reads as list-new-reads
-use Rattle.parity.proofs.deeper.Reads as deeper-reads
-use Rattle.parity.proofs.offer.Reads as offer-reads
-use Rattle.tableau.proofs.copy_known.Reads as copy-known-reads
 
 -- nothing is refused
 passed : (c : tie.Else1) → refusal (assumeChecks (c .before .before .before .before .args .h) (length (c .before .before .before .before .args .work .now)) (length (c .before .before .before .before .args .literals .now)) (c .before .before .before .before .args .code)) ≡ 0
@@ -26,38 +21,30 @@ passed c = sym (c .before .judge-assume .ensures) ∙ c .if1 .left
 judged : (c : tie.Else1) → let a = c .before .before .before .before .args in Fit (a .h) × (4096 ≤ length (a .work .now)) × (a .h .n ≤ length (a .literals .now)) × (2 ≤ a .code) × (a .code ≤ 2 * a .h .n + 1)
 judged c = let a = c .before .before .before .before .args in assume-judged (a .h) (length (a .work .now)) (length (a .literals .now)) (a .code) (passed c)
 
--- src/lib.rt:108:9
 judge-assume-requires : tie.Need-judge-assume-requires
 judge-assume-requires c κs = search needs
 
--- src/lib.rt:110:9
 returns : tie.Need-returns
 returns c = let a = c .before .before .before .before .args in promise-refused (a .h) (a .work .now) (a .literals .now) (a .code) (c .before .judge-assume .result) (c .before .judge-assume .ensures) (c .if1 .taken)
 
--- src/lib.rt:116:15
 copy-known-requires : tie.Need-copy-known-requires
 copy-known-requires c κs = judged (c .before) .1
 
--- src/lib.rt:117:19
 slice-relend-prefix-offer : tie.Need-slice-relend-prefix-offer
 slice-relend-prefix-offer c = judged (c .before .before) .1
 
--- src/lib.rt:117:19
 slice-aggregate-offer : tie.Need-slice-aggregate-offer
 slice-aggregate-offer c = let e = c .before .before .before in sym (front-long (e .before .before .before .before .args .work .now) (judged e .1))
 
--- src/lib.rt:117:9
 offer-requires : tie.Need-offer-requires
 offer-requires c κs = let e = c .before .before .before in
     let j = judged e in
     let l = front-long (e .before .before .before .before .args .work .now) (j .1) in
     (omega (arith, l), j .0 .vars, let a = j .0 .kept in let b = j .0 .rows in omega arith, j .3, j .4)
 
--- src/lib.rt:128:47
 slice-aggregate-list-new : tie.Need-slice-aggregate-list-new
 slice-aggregate-list-new c = search needs
 
--- src/lib.rt:128:17
 list-new-requires : tie.Need-list-new-requires
 list-new-requires c κs = let o = c .before .before .before .before .before .before in
     let e = o .before .before .before .before in
@@ -67,7 +54,6 @@ list-new-requires c κs = let o = c .before .before .before .before .before .bef
     let l = j .1 in
     (omega (arith, r, l), search needs, j .0 .vars, j .2)
 
--- src/lib.rt:130:25
 deeper-requires : tie.Need-deeper-requires
 deeper-requires c κs = let m = c .before .before .before .before .before .before in
     let o = m .before .before .before in
@@ -78,37 +64,30 @@ deeper-requires c κs = let m = c .before .before .before .before .before .befor
     let v = j .0 .vars in
     omega (arith, f, v)
 
--- src/lib.rt:105:1
 same-length : tie.Need-same-length
 same-length c = search needs
 
--- src/lib.rt:105:1
 returns-2 : tie.Need-returns-2
 returns-2 c = let o = c .before .before .before in
     let e = o .before .before .before .before in
     let a = e .before .before .before .before .args in
     promise-held (a .h) (a .work .now) (a .literals .now) (a .code) (passed e) (o .offer .last .0) (o .offer .result) (o .offer .ensures) (c .match .keys1)
 
--- src/lib.rt:105:1
 same-length-2 : tie.Need-same-length-2
 same-length-2 c = search needs
 
--- src/lib.rt:105:1
 returns-3 : tie.Need-returns-3
 returns-3 c = let o = c .before .before .before in
     let e = o .before .before .before .before in
     let a = e .before .before .before .before .args in
     promise-conflict (a .h) (a .work .now) (a .literals .now) (a .code) (passed e) (o .offer .last .0) (o .offer .result) (o .offer .ensures) (c .match .keys2)
 
--- src/lib.rt:105:1
 same-length-3 : tie.Need-same-length-3
 same-length-3 c = search needs
 
--- src/lib.rt:105:1
 same-length-4 : tie.Need-same-length-4
 same-length-4 c = search needs
 
--- src/lib.rt:105:1
 returns-4 : tie.Need-returns-4
 returns-4 c = let i = c .before .before .before in
     let m = i .before .before .before .before in
@@ -120,11 +99,9 @@ returns-4 c = let i = c .before .before .before in
     (promise-taken (a .h) (a .work .now) (a .literals .now) (a .code) (passed e) (o .offer .last .0) (o .offer .result) (o .offer .ensures) (k .copy-known .result) (k .copy-known .ensures) (o .offer .kept .0) (i .list-new .last .1 .1 .1 .1 .0)
     (i .list-new .result) (i .list-new .ensures) (m .match .keys3))
 
--- src/lib.rt:105:1
 same-length-5 : tie.Need-same-length-5
 same-length-5 c = search needs
 
--- src/lib.rt:105:1
 returns-5 : tie.Need-returns-5
 returns-5 c = let o = c .before .before .before in
     let e = o .before .before .before .before in

@@ -1,3 +1,5 @@
+-- `parity::back_core` meets its contract.
+-- Assumes nothing.
 use mathlib.Core.Path.{_≡_, refl, sym, _∙_}
 use lib.ListN.{length}
 use Prim.Native.Nat.{_≤_}
@@ -9,24 +11,17 @@ use Rattle.parity.proofs.Going.{back-stands}
 use borrow.Author.Needs.{needs}
 use Rattle.parity.proofs.back_core.Statement.{statement}
 use Rattle.parity.proofs.back_core.Tie as tie
-use Rattle.parity.proofs.back_core.Reads as reads
-use Rattle.parity.proofs.back_core.Lts as lts
-use Rattle.judge.proofs.judge_back.Reads as judge-back-reads
-use Rattle.settle.proofs.restart.Reads as restart-reads
 
 -- what the judge let pass
 judged : (c : tie.Else1) → Fit (c .before .before .before .args .h) × (4096 ≤ length (c .before .before .before .args .work .now)) × (c .before .before .before .args .depth ≤ c .before .before .before .args .h .depth)
 judged c = let a = c .before .before .before .args in back-judged (a .h) (length (a .work .now)) (a .depth) (sym (c .before .judge-back .ensures) ∙ c .if1 .left)
 
--- src/lib.rt:36:9
 judge-back-requires : tie.Need-judge-back-requires
 judge-back-requires c κs = search needs
 
--- src/lib.rt:39:21
 cast-t8 : tie.Need-cast-t8
 cast-t8 c = search needs
 
--- src/lib.rt:38:9
 returns : tie.Need-returns
 returns c = let a = c .before .before .before .args in record {
   answer = c .before .judge-back .ensures;
@@ -35,26 +30,21 @@ returns c = let a = c .before .before .before .args in record {
   right = λ e. absurd (c .if1 .taken e);
 }
 
--- src/lib.rt:44:21
 slice-relend-prefix-restart : tie.Need-slice-relend-prefix-restart
 slice-relend-prefix-restart c = judged c .1
 
--- src/lib.rt:44:21
 slice-aggregate-restart : tie.Need-slice-aggregate-restart
 slice-aggregate-restart c = sym (front-long (c .before .before .before .before .args .work .now) (judged (c .before) .1))
 
--- src/lib.rt:44:5
 restart-requires : tie.Need-restart-requires
 restart-requires c κs = let j = judged (c .before) in
     let f = j .0 in
     let l = front-long (c .before .before .before .before .args .work .now) (j .1) in
     (omega (arith, l), let a = f .kept in let b = f .rows in omega arith, let a = f .depth in let b = f .vars in let d = j .2 in omega arith)
 
--- src/lib.rt:33:1
 same-length : tie.Need-same-length
 same-length c = search needs
 
--- src/lib.rt:33:1
 returns-2 : tie.Need-returns-2
 returns-2 c = let w = c .before .before .before .before in
     let a = w .before .before .before .args in

@@ -1,3 +1,5 @@
+-- `parity::explain` meets its contract.
+-- Assumes nothing.
 use mathlib.Core.Path.{_≡_, sym, _∙_}
 use lib.ListN.{length}
 use Prim.Native.Nat.{_≤_}
@@ -12,15 +14,7 @@ use Rattle.parity.proofs.Explaineds.{promise-denied, promise-no-value, 
 use borrow.Author.Needs.{needs}
 use Rattle.parity.proofs.explain.Statement.{statement}
 use Rattle.parity.proofs.explain.Tie as tie
-use Rattle.parity.proofs.explain.Reads as reads
-use Rattle.parity.proofs.explain.Lts as lts
-use Rattle.exchange.proofs.find.Reads as find-reads
-use Rattle.judge.proofs.judge_explain.Reads as judge-explain-reads
-use Rattle.lists.proofs.list_clause.Reads as list-clause-reads
-use Rattle.lists.proofs.list_rows.Reads as list-rows-reads
-use Rattle.words.proofs.bit.Reads as bit-reads
 
--- src/lib.rt:145:9
 -- nothing is refused by the checks
 passed : (c : tie.Else1) → let a = c .before .before .before .before .before .args in refusal (explainChecks (a .h) (length (a .work .now)) (length (a .clause .now)) (length (a .rows .now)) (a .v)) ≡ 0
 passed c = sym (c .before .judge-explain .ensures) ∙ c .if1 .left
@@ -31,30 +25,24 @@ judged c = let a = c .before .before .before .before .before .args in explain-ju
 judge-explain-requires : tie.Need-judge-explain-requires
 judge-explain-requires c κs = search needs
 
--- src/lib.rt:147:9
 returns : tie.Need-returns
 returns c = let a = c .before .before .before .before .before .args in promise-denied (a .h) (a .work .now) (a .clause .now) (a .rows .now) (a .v) (c .before .judge-explain .result) (c .before .judge-explain .ensures) (c .if1 .taken)
 
--- src/lib.rt:150:9
 bit-requires : tie.Need-bit-requires
 bit-requires c κs = let j = judged c in let l = j .1 in let lo = j .4 .low in let hi = j .4 .high in let v = j .0 .vars in (omega arith, lo, omega arith)
 
--- src/lib.rt:151:9
 returns-2 : tie.Need-returns-2
 returns-2 c = let e = c .before .before in let a = e .before .before .before .before .before .args in promise-no-value (a .h) (a .work .now) (a .clause .now) (a .rows .now) (a .v) (passed e) (sym (c .before .bit .ensures) ∙ not-true (c .before .bit .result) (c .if2 .taken))
 
--- src/lib.rt:153:9
 find-requires : tie.Need-find-requires
 find-requires c κs = let j = judged (c .before .before) in let k = j .0 .kept in let m = j .0 .rows in (j .1, omega arith)
 
--- src/lib.rt:155:9
 returns-3 : tie.Need-returns-3
 returns-3 c = let b = c .before .before .before in
     let e = b .before in
     let a = e .before .before .before .before .before .args in
     promise-assumed (a .h) (a .work .now) (a .clause .now) (a .rows .now) (a .v) (passed e) (sym (b .bit .ensures) ∙ not-false (b .bit .result) (c .before .before .if2 .left)) (rw (c .if3 .taken) at (c .before .find .ensures))
 
--- src/lib.rt:157:9
 list-clause-requires : tie.Need-list-clause-requires
 list-clause-requires c κs = let f = c .before .before in
     let j = judged (f .before .before .before) in
@@ -64,7 +52,6 @@ list-clause-requires c κs = let f = c .before .before in
     let ne = c .before .if3 .left in
     (j .1, omega (arith, u, ne), j .0 .vars, j .2, j .4 .low, j .4 .high)
 
--- src/lib.rt:158:9
 list-rows-requires : tie.Need-list-rows-requires
 list-rows-requires c κs = let d = c .before .before .before .before .before in
     let f = d .before in
@@ -75,15 +62,12 @@ list-rows-requires c κs = let d = c .before .before .before .before .before in
     let ne = d .if3 .left in
     (j .1, omega (arith, u, ne), j .0 .rows, j .3)
 
--- src/lib.rt:142:1
 same-length : tie.Need-same-length
 same-length c = search needs
 
--- src/lib.rt:142:1
 same-length-2 : tie.Need-same-length-2
 same-length-2 c = search needs
 
--- src/lib.rt:142:1
 returns-4 : tie.Need-returns-4
 returns-4 c = let nr = c .before .before in
     let lc = nr .before .before .before .before in

@@ -1,3 +1,5 @@
+-- `parity::offer` meets its contract.
+-- Assumes nothing.
 use mathlib.Core.Path.{sym, _∙_}
 use native.Mathlib.Omega.{arith}
 use borrow.Author.Tests.{not-true, not-false}
@@ -6,53 +8,38 @@ use Rattle.parity.specs.Offers.{below, full-held, full-conflict, full-re
 use borrow.Author.Needs.{needs}
 use Rattle.parity.proofs.offer.Statement.{statement}
 use Rattle.parity.proofs.offer.Tie as tie
-use Rattle.parity.proofs.offer.Reads as reads
-use Rattle.parity.proofs.offer.Lts as lts
-use Rattle.exchange.proofs.step.Reads as step-reads
-use Rattle.words.proofs.bit.Reads as bit-reads
 
--- src/lib.rt:40:9
 step-requires : tie.Need-step-requires
 step-requires c κs = search needs
 
--- src/lib.rt:40:9
 same-length : tie.Need-same-length
 same-length c = search needs
 
--- src/lib.rt:40:9
 returns : tie.Need-returns
 returns c = below (omega arith) (c .before .before .step .ensures)
 
--- src/lib.rt:43:9
 bit-requires : tie.Need-bit-requires
 bit-requires c κs = search needs
 
--- src/lib.rt:44:9
 same-length-2 : tie.Need-same-length-2
 same-length-2 c = search needs
 
--- src/lib.rt:44:9
 returns-2 : tie.Need-returns-2
 returns-2 c = full-refused (omega arith) (sym (c .before .bit .ensures) ∙ not-true (c .before .bit .result) (c .if2 .taken))
 
--- src/lib.rt:46:8
 bit-requires-2 : tie.Need-bit-requires-2
 bit-requires-2 c κs = search needs
 
--- src/lib.rt:47:9
 same-length-3 : tie.Need-same-length-3
 same-length-3 c = search needs
 
--- src/lib.rt:47:9
 returns-3 : tie.Need-returns-3
 returns-3 c = let b = c .before .before .before in
     full-held (omega arith) (sym (b .before .bit .ensures) ∙ not-false (b .before .bit .result) (b .if2 .left)) (sym (c .before .bit2 .ensures) ∙ beq-same _ _ (c .if3 .taken))
 
--- src/lib.rt:35:1
 same-length-4 : tie.Need-same-length-4
 same-length-4 c = search needs
 
--- src/lib.rt:35:1
 returns-4 : tie.Need-returns-4
 returns-4 c = let b = c .before .before .before in
     full-conflict (omega arith) (sym (b .before .bit .ensures) ∙ not-false (b .before .bit .result) (b .if2 .left)) (λ z. beq-other _ _ (c .if3 .left) (c .before .bit2 .ensures ∙ z))

@@ -1,3 +1,5 @@
+-- `parity::open` meets its contract.
+-- Assumes nothing.
 use mathlib.Core.Path.{sym, _∙_}
 use native.Mathlib.Omega.{arith}
 use lib.ListN.{length}
@@ -5,25 +7,16 @@ use Rattle.parity.proofs.Opens.{promise-turned-down, fill-fine, promise
 use borrow.Author.Needs.{needs}
 use Rattle.parity.proofs.open.Statement.{statement}
 use Rattle.parity.proofs.open.Tie as tie
-use Rattle.parity.proofs.open.Reads as reads
-use Rattle.parity.proofs.open.Lts as lts
-use Rattle.parity.proofs.judge_open.Reads as judge-open-reads
-use Rattle.parity.proofs.open_all.Reads as open-all-reads
-use Rattle.sheet.proofs.fill.Reads as fill-reads
 
--- src/lib.rt:232:9
 judge-open-requires : tie.Need-judge-open-requires
 judge-open-requires c κs = search needs
 
--- src/lib.rt:234:26
 enum-known-a : tie.Need-enum-known-a
 enum-known-a c = search needs
 
--- src/lib.rt:238:25
 enum-known-a-2 : tie.Need-enum-known-a-2
 enum-known-a-2 c = search needs
 
--- src/lib.rt:239:13
 fill-requires : tie.Need-fill-requires
 fill-requires c κs = let t = c .before in
     let j = t .before .before .before in
@@ -32,7 +25,6 @@ fill-requires c κs = let t = c .before in
     let f = fill-fine (a .s .now) (length (a .store .now)) (length (a .work .now)) (length (a .literals .now)) (length (a .rows .now)) _ _ e in
     (f .0, f .1, f .2, f .3)
 
--- src/lib.rt:240:13
 open-all-requires : tie.Need-open-all-requires
 open-all-requires c κs = let i = c .before .before .before .before .before .before in
     let t = i .before .before in
@@ -44,29 +36,23 @@ open-all-requires c κs = let i = c .before .before .before .before .before .bef
     let r = f .3 in
     (f .0, f .1, omega (arith, k, r), f .4, f .5, f .6)
 
--- src/lib.rt:229:1
 returns : tie.Need-returns
 returns c = let j = c .before .before .before in
     let a = j .before .before .before .before .before .before .args in
     promise-turned-down (a .old) (a .s .now) (a .store .now) (a .work .now) (a .literals .now) (a .rows .now) _ (sym (c .before .a .given .1) ∙ j .judge-open .ensures)
 
--- src/lib.rt:229:1
 same-length : tie.Need-same-length
 same-length c = search needs
 
--- src/lib.rt:229:1
 same-length-2 : tie.Need-same-length-2
 same-length-2 c = search needs
 
--- src/lib.rt:229:1
 same-length-3 : tie.Need-same-length-3
 same-length-3 c = search needs
 
--- src/lib.rt:229:1
 same-length-4 : tie.Need-same-length-4
 same-length-4 c = search needs
 
--- src/lib.rt:229:1
 returns-2 : tie.Need-returns-2
 returns-2 c = let o = c .before .before .before .before .before .before in
     let i = o .before .before .before .before .before .before .before in

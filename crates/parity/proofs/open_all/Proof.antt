@@ -1,3 +1,5 @@
+-- `parity::open_all` meets its contract.
+-- Assumes nothing.
 use mathlib.Core.Path.{sym}
 use native.Mathlib.Omega.{arith}
 use Rattle.parity.specs.Openings.{all-in, stopped}
@@ -5,37 +7,25 @@ use Rattle.parity.proofs.Part.{front-long, replaced-worked}
 use borrow.Author.Needs.{needs}
 use Rattle.parity.proofs.open_all.Statement.{statement}
 use Rattle.parity.proofs.open_all.Tie as tie
-use Rattle.parity.proofs.open_all.Reads as reads
-use Rattle.parity.proofs.open_all.Lts as lts
-use Rattle.lists.proofs.list_known.Reads as list-known-reads
-use Rattle.lists.proofs.list_rows.Reads as list-rows-reads
-use Rattle.opening.proofs.open_rows.Reads as open-rows-reads
 
--- src/lib.rt:197:32
 slice-relend-prefix-open-rows : tie.Need-slice-relend-prefix-open-rows
 slice-relend-prefix-open-rows c = search needs
 
--- src/lib.rt:197:32
 slice-aggregate-open-rows : tie.Need-slice-aggregate-open-rows
 slice-aggregate-open-rows c = let t = c .before .before .before .before .before in sym (front-long (t .args .work .now) (t .pre .3))
 
--- src/lib.rt:197:9
 open-rows-requires : tie.Need-open-rows-requires
 open-rows-requires c κs = let t = c .before .before .before .before .before in let l = front-long (t .args .work .now) (t .pre .3) in (omega (arith, l), t .pre .2, t .pre .1)
 
--- src/lib.rt:199:32
 enum-known-x : tie.Need-enum-known-x
 enum-known-x c = search needs
 
--- src/lib.rt:200:17
 list-known-requires : tie.Need-list-known-requires
 list-known-requires c κs = search needs
 
--- src/lib.rt:212:36
 enum-known-x-2 : tie.Need-enum-known-x-2
 enum-known-x-2 c = search needs
 
--- src/lib.rt:213:17
 list-rows-requires : tie.Need-list-rows-requires
 list-rows-requires c κs = let xx = c .before .before .before in
     let o = xx .before .before .before .before in
@@ -48,30 +38,24 @@ list-rows-requires c κs = let xx = c .before .before .before in
     let q = st .low in
     (omega (arith, r, w), omega (arith, f, q, m), t .pre .1, t .pre .5)
 
--- src/lib.rt:193:1
 same-length : tie.Need-same-length
 same-length c = search needs
 
--- src/lib.rt:193:1
 same-length-2 : tie.Need-same-length-2
 same-length-2 c = search needs
 
--- src/lib.rt:193:1
 returns : tie.Need-returns
 returns c = let lk = c .before .before in
     let xx = lk .before .before .before .before in
     let o = xx .before .before .before .before in
     all-in _ (o .open-rows .last .0) (lk .list-known .result) _ (o .open-rows .kept .0) (rw (xx .x .given .1) at (o .open-rows .ensures)) (lk .list-known .ensures)
 
--- src/lib.rt:193:1
 same-length-3 : tie.Need-same-length-3
 same-length-3 c = search needs
 
--- src/lib.rt:193:1
 same-length-4 : tie.Need-same-length-4
 same-length-4 c = search needs
 
--- src/lib.rt:193:1
 returns-2 : tie.Need-returns-2
 returns-2 c = let lr = c .before .before in
     let xx = lr .before .before .before .before in

@@ -1,3 +1,5 @@
+-- `sheet::clean_rows` meets its contract.
+-- Assumes nothing.
 use mathlib.Core.Bool.{true}
 use mathlib.Core.Path.{_≡_, refl, sym, ap, _∙_}
 use Prim.Native.Nat.{ℕ, _-_, _≤_}

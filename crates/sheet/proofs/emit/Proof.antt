@@ -1,3 +1,5 @@
+-- `sheet::emit` meets its contract.
+-- Assumes nothing.
 use native.Mathlib.Omega.{arith}
 use borrow.Author.Needs.{needs}
 use denote.Ref.{now}

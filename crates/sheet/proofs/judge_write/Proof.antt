@@ -1,3 +1,5 @@
+-- `sheet::judge_write` meets its contract.
+-- Assumes nothing.
 use mathlib.Core.Bool.{true, false}
 use mathlib.Core.Path.{_≡_, sym, _∙_}
 use Prim.Native.Nat.{_*_}

@@ -1,3 +1,5 @@
+-- `sheet::put_rows` meets its contract.
+-- Assumes nothing.
 use mathlib.Core.Bool.{Bool}
 use mathlib.Core.List.{List}
 use mathlib.Core.Path.{_≡_, ap, _∙_}

@@ -1,3 +1,5 @@
+-- `sheet_vectors::reads` meets its contract.
+-- Assumes nothing.
 use Rattle.sheet_vectors.proofs.Parts.{part-length}
 use Rattle.sheet.specs.Reader.{number, reading}
 use denote.Ref.{now}

@@ -1,3 +1,5 @@
+-- `sheet_vectors::writes` meets its contract.
+-- Assumes nothing.
 use mathlib.Core.List.{List}
 use mathlib.Core.Path.{ap, ap₂, _∙_}
 use Prim.Native.Nat.{ℕ}

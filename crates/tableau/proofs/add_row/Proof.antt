@@ -1,3 +1,5 @@
+-- `tableau::add_row` meets its contract.
+-- Assumes nothing.
 use Rattle.tableau.proofs.Runs.{reads-at}
 use Rattle.tableau.specs.Layout.{rowAt, fromAt}
 -- `tableau::add_row` meets its contract.

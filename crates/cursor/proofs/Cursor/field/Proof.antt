@@ -1,3 +1,5 @@
+-- `cursor::Cursor::field` meets its contract.
+-- Assumes nothing.
 use mathlib.Core.Path.{refl, _∙_}
 use native.Mathlib.Omega.{arith}
 use borrow.Author.Needs.{needs}

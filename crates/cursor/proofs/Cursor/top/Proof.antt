@@ -1,3 +1,5 @@
+-- `cursor::Cursor::top` meets its contract.
+-- Assumes nothing.
 use Prim.Native.Nat.{_+_, _*_, _/_, _%_}
 use native.Mathlib.Omega.{arith}
 use borrow.Author.Needs.{needs}

@@ -1,0 +1,61 @@
+/* bench.h: the pieces of the benchmark. */
+#ifndef BENCH_H
+#define BENCH_H
+
+#include <parity.h>
+#include <stdio.h>
+
+/* ---- systems.c: seeded systems that have a solution ---- */
+
+typedef enum { DENSE, SPARSE, SCRAMBLER, FAMILIES } family;
+extern const char *const family_names[FAMILIES];
+
+typedef struct {
+    family family;
+    size_t n, m, size;
+    uint8_t sheet[PARITY_SHEET_BYTES];
+    uint64_t store[PARITY_STORE_WORDS];
+} sample;
+
+uint64_t random_word(uint64_t *seed);
+void make_sample(sample *s, family f, size_t n, size_t m, uint64_t seed);
+
+/* ---- plain.c: the same work in straightforward C ---- */
+
+typedef struct {
+    uint64_t coefficients[8], provenance[4], parity;
+    size_t lead; /* its own column, which no other row has */
+} plain_row;
+
+void plain_decode(const uint8_t *sheet, size_t n, size_t m, uint64_t *store);
+size_t plain_eliminate(const uint64_t *store, size_t m,
+                       plain_row *rows); /* the rows kept; none where they contradict */
+
+/* ---- four_russians.c: M4RI, where it is installed ---- */
+
+int m4ri_there(void);
+void m4ri_start(size_t n, size_t m);
+void m4ri_open(const uint8_t *sheet, size_t n, size_t m); /* decodes and brings to reduced echelon form */
+void m4ri_end(void);
+
+/* ---- report.c ---- */
+
+typedef struct {
+    family family;
+    size_t n, m;
+    /* microseconds a call; m4ri is 0 where it is missing */
+    double read, write, open, decode, plain, m4ri, assume, back, explain;
+} timing;
+
+enum { SYSTEMS = 9, STEPS = 8 };
+
+typedef struct {
+    timing systems[SYSTEMS]; /* families by size */
+    timing by_n[STEPS];      /* dense, m = n / 2 */
+    timing by_m[STEPS];      /* dense, n = 512 */
+} results;
+
+void write_report(FILE *out, const results *r); /* tables in Markdown */
+void write_plot(FILE *out, const results *r);   /* SVG */
+
+#endif

@@ -1,0 +1,227 @@
+/* report.c: the tables, in Markdown that is read as it stands, and the plot. */
+#include "bench.h"
+#include <math.h>
+#include <string.h>
+
+/* What the plot shows, and the growth tables. */
+static double opened(const timing *t)
+{
+    return t->open;
+}
+
+static double by_plain(const timing *t)
+{
+    return t->decode + t->plain;
+}
+
+static double by_m4ri(const timing *t)
+{
+    return t->m4ri;
+}
+
+static const struct {
+    const char *name, *colour;
+    double (*time)(const timing *);
+} contestants[] = {{"the module", "#b03060", opened}, {"plain C", "#4060b0", by_plain}, {"M4RI", "#308050", by_m4ri}};
+
+enum { CONTESTANTS = 3 };
+
+static double by(double a, double b)
+{
+    return b > 0 ? a / b : 0;
+}
+
+/* The slope of log time over log size, by least squares: the exponent of the growth. */
+static double growth(const timing *t, double (*time)(const timing *), int over_m)
+{
+    double sx = 0, sy = 0, sxx = 0, sxy = 0;
+    int i;
+    for (i = 0; i < STEPS; i++) {
+        double x = log((double)(over_m ? t[i].m : t[i].n)), y = log(time(&t[i]));
+        sx += x;
+        sy += y;
+        sxx += x * x;
+        sxy += x * y;
+    }
+    return (STEPS * sxy - sx * sy) / (STEPS * sxx - sx * sx);
+}
+
+/* ---- tables ---- */
+
+enum { RATIOS = 7 };
+
+static const char *const ratio_names[RATIOS] = {"open/M4RI",   "elim/plain", "read/open",   "write/read",
+                                                "assume/open", "back/open",  "explain/open"};
+
+static void ratios_of(const timing *t, double *ratios)
+{
+    ratios[0] = by(t->open, t->m4ri);
+    ratios[1] = by(t->open - t->read, t->plain);
+    ratios[2] = by(t->read, t->open);
+    ratios[3] = by(t->write, t->read);
+    ratios[4] = by(t->assume, t->open);
+    ratios[5] = by(t->back, t->open);
+    ratios[6] = by(t->explain, t->open);
+}
+
+/* A number, or a dash for one that is missing. */
+static void cell(FILE *out, int width, int decimals, double number)
+{
+    if (number > 0)
+        fprintf(out, " %*.*f |", width, decimals, number);
+    else
+        fprintf(out, " %*s |", width, "-");
+}
+
+static void system_table(FILE *out, const results *r)
+{
+    int i, k;
+    fprintf(out, "| system    |   n |   m |  open us |");
+    for (k = 0; k < RATIOS; k++)
+        fprintf(out, " %s |", ratio_names[k]);
+    fprintf(out, "\n|-----------|----:|----:|---------:|");
+    for (k = 0; k < RATIOS; k++)
+        fprintf(out, "%.*s:|", (int)strlen(ratio_names[k]) + 1, "--------------------");
+    for (i = 0; i < SYSTEMS; i++) {
+        const timing *t = &r->systems[i];
+        double ratios[RATIOS];
+        ratios_of(t, ratios);
+        fprintf(out, "\n| %-9s | %3zu | %3zu | %8.1f |", family_names[t->family], t->n, t->m, t->open);
+        for (k = 0; k < RATIOS; k++)
+            cell(out, (int)strlen(ratio_names[k]), 3, ratios[k]);
+    }
+    fprintf(out, "\n");
+}
+
+static void growth_table(FILE *out, const timing *t, int over_m)
+{
+    int i, k;
+    fprintf(out, "|   n |   m |");
+    for (k = 0; k < CONTESTANTS; k++)
+        fprintf(out, " %10s |", contestants[k].name);
+    fprintf(out, "\n|----:|----:|-----------:|-----------:|-----------:|\n");
+    for (i = 0; i < STEPS; i++) {
+        fprintf(out, "| %3zu | %3zu |", t[i].n, t[i].m);
+        for (k = 0; k < CONTESTANTS; k++)
+            cell(out, 10, 1, contestants[k].time(&t[i]));
+        fprintf(out, "\n");
+    }
+    fprintf(out, "\nTime grows as the power");
+    for (k = 0; k < CONTESTANTS; k++)
+        if (k != 2 || m4ri_there())
+            fprintf(out, "%s %.2f (%s)", k ? "," : "", growth(t, contestants[k].time, over_m), contestants[k].name);
+    fprintf(out, " of %s.\n", over_m ? "m" : "n");
+}
+
+static void limit(FILE *out, const char *what, double got, double most)
+{
+    fprintf(out, "- %s: %.3f, at most %.1f: %s\n", what, got, most, got <= most ? "met" : "NOT MET");
+}
+
+void write_report(FILE *out, const results *r)
+{
+    const timing *largest = &r->by_m[STEPS - 1]; /* 256 rows of 512 variables */
+    fprintf(out, "# Benchmark\n\nMade by `bench/run`. One process, seeded systems, best of several rounds; ratios "
+                 "carry over to other machines, times do not.\n");
+    if (!m4ri_there())
+        fprintf(out, "M4RI (libm4ri-dev) is not installed here, so its columns are empty.\n");
+    fprintf(out,
+            "\n- open/M4RI: opening, reading included, against a plain C decode and `mzd_echelonize_m4ri` on "
+            "coefficients, parity and provenance\n"
+            "- elim/plain: opening less reading, against the same elimination in plain C (`bench/plain.c`, gcc -O3)\n"
+            "- the others: one call against one opening, or against one reading\n\n");
+    system_table(out, r);
+    fprintf(out, "\n## Limits at 256 rows of 512 variables\n\n");
+    limit(out, "reading against opening", by(largest->read, largest->open), 0.1);
+    limit(out, "writing against reading", by(largest->write, largest->read), 2.0);
+    fprintf(out, "\n## Growth: dense, m = n / 2, microseconds\n\n");
+    growth_table(out, r->by_n, 0);
+    fprintf(out, "\n## Growth: dense, n = 512, microseconds\n\n");
+    growth_table(out, r->by_m, 1);
+    fprintf(out, "\n![Opening by size](benchmark.svg)\n");
+}
+
+/* ---- plot: two panels, both axes logarithmic ---- */
+
+enum { WIDTH = 380, HEIGHT = 300, LEFT = 60, TOP = 50, GAP = 90 };
+
+typedef struct {
+    double left, least, most; /* of the time axis, as powers of ten */
+    double from, to;          /* of the size axis */
+} panel;
+
+static double x_of(const panel *p, double size)
+{
+    return p->left + WIDTH * (log(size) - log(p->from)) / (log(p->to) - log(p->from));
+}
+
+static double y_of(const panel *p, double us)
+{
+    return TOP + HEIGHT * (p->most - log10(us)) / (p->most - p->least);
+}
+
+static void axes(FILE *out, const panel *p, const char *title)
+{
+    double power, size;
+    fprintf(out, "<text x=\"%.0f\" y=\"%d\" font-size=\"14\">%s</text>\n", p->left, TOP - 20, title);
+    for (power = p->least; power <= p->most; power++) {
+        double y = y_of(p, pow(10, power));
+        fprintf(out, "<path d=\"M%.1f %.1fh%d\" stroke=\"#ddd\"/>\n", p->left, y, WIDTH);
+        fprintf(out, "<text x=\"%.1f\" y=\"%.1f\" text-anchor=\"end\">%g us</text>\n", p->left - 6, y + 4,
+                pow(10, power));
+    }
+    for (size = p->from; size <= p->to; size *= 2) {
+        fprintf(out, "<path d=\"M%.1f %dv%d\" stroke=\"#ddd\"/>\n", x_of(p, size), TOP, HEIGHT);
+        fprintf(out, "<text x=\"%.1f\" y=\"%d\" text-anchor=\"middle\">%g</text>\n", x_of(p, size), TOP + HEIGHT + 18,
+                size);
+    }
+}
+
+static void curves(FILE *out, const panel *p, const timing *t, int over_m)
+{
+    int i, k;
+    for (k = 0; k < CONTESTANTS; k++) {
+        if (k == 2 && !m4ri_there())
+            continue;
+        fprintf(out, "<polyline fill=\"none\" stroke=\"%s\" stroke-width=\"2\" points=\"", contestants[k].colour);
+        for (i = 0; i < STEPS; i++)
+            fprintf(out, "%.1f,%.1f ", x_of(p, (double)(over_m ? t[i].m : t[i].n)),
+                    y_of(p, contestants[k].time(&t[i])));
+        fprintf(out, "\"/>\n<text x=\"%.1f\" y=\"%d\" fill=\"%s\">%s</text>\n", p->left + 10, TOP + 18 + 16 * k,
+                contestants[k].colour, contestants[k].name);
+    }
+}
+
+/* Whole powers of ten around all times of both panels. */
+static void bounds(const results *r, double *least, double *most)
+{
+    int i, k;
+    *least = 9;
+    *most = -9;
+    for (i = 0; i < 2 * STEPS; i++)
+        for (k = 0; k < CONTESTANTS; k++) {
+            double us = contestants[k].time(i < STEPS ? &r->by_n[i] : &r->by_m[i - STEPS]);
+            if (us > 0) {
+                *least = fmin(*least, floor(log10(us)));
+                *most = fmax(*most, ceil(log10(us)));
+            }
+        }
+}
+
+void write_plot(FILE *out, const results *r)
+{
+    panel n = {LEFT, 0, 0, 64, 512}, m = {LEFT + WIDTH + GAP, 0, 0, 32, 256};
+    bounds(r, &n.least, &n.most);
+    m.least = n.least;
+    m.most = n.most;
+    fprintf(out,
+            "<svg xmlns=\"http://www.w3.org/2000/svg\" width=\"%d\" height=\"%d\" font-family=\"sans-serif\" "
+            "font-size=\"12\">\n",
+            LEFT + 2 * WIDTH + GAP + 30, TOP + HEIGHT + 40);
+    fprintf(out, "<rect width=\"100%%\" height=\"100%%\" fill=\"white\"/>\n");
+    axes(out, &n, "Opening a dense sheet by n, m = n / 2");
+    curves(out, &n, r->by_n, 0);
+    axes(out, &m, "Opening a dense sheet by m, n = 512");
+    curves(out, &m, r->by_m, 1);
+    fprintf(out, "</svg>\n");
+}
