@@ -130,29 +130,3 @@ module _ (n m : ℕ) (Sheet : ℕ → Row) (kept : ℕ → Bool) (d : ℕ) (x : 
       distinct i j h g e (inl p) (inr q) = absurd (new j (omega arith) (sym e ∙ ap x′ p ∙ at-d))
       distinct i j h g e (inr p) (inl q) = absurd (new i (omega arith) (e ∙ ap x′ q ∙ at-d))
       distinct i j h g e (inr p) (inr q) = w .taken .distinct i j (omega arith) (omega arith) (sym (same-below i (omega arith)) ∙ e ∙ same-below j (omega arith))
-
--- ---- the list: known afterwards, not known before, not v itself
-module _ (n m : ℕ) (Sheet : ℕ → Row) (kept : ℕ → Bool) (d : ℕ) (x : ℕ → ℕ) (y : ℕ → Bool) (k : ℕ) (R : ℕ → Row) (β : ℕ → ℕ) (S : ℕ → ℕ → Bool) (known truth : ℕ → Bool)
-    (w : Made n m Sheet kept d x y k R β S known truth)
-    (d′ : ℕ) (x′ : ℕ → ℕ) (y′ : ℕ → Bool) (k′ : ℕ) (R′ : ℕ → Row) (β′ : ℕ → ℕ) (S′ : ℕ → ℕ → Bool) (known′ truth′ : ℕ → Bool)
-    (w′ : Made n m Sheet kept d′ x′ y′ k′ R′ β′ S′ known′ truth′) (v : ℕ) where
-  pub newly : (u : ℕ) (b : Bool) → Var n u
-      → ((known′ u ≡ true) × (known u ≡ false) × (u ≢ v) × (truth′ u ≡ b))
-      ↔ (Implied n m Sheet (Literals d′ x′ y′) u b × ((c : Bool) → Implied n m Sheet (Literals d x y) u c → ⊥) × (u ≢ v))
-  newly u b mu = (to, from)
-    where
-      before : (b : Bool) → Var n u → ((known u ≡ true) × (truth u ≡ b)) ↔ Implied n m Sheet (Literals d x y) u b
-      before = given n m Sheet kept d x y k R β S known truth w u
-
-      after : ((known′ u ≡ true) × (truth′ u ≡ b)) ↔ Implied n m Sheet (Literals d′ x′ y′) u b
-      after = given n m Sheet kept d′ x′ y′ k′ R′ β′ S′ known′ truth′ w′ u b mu
-
-      to : (known′ u ≡ true) × (known u ≡ false) × (u ≢ v) × (truth′ u ≡ b) → Implied n m Sheet (Literals d′ x′ y′) u b × ((c : Bool) → Implied n m Sheet (Literals d x y) u c → ⊥) × (u ≢ v)
-      to h = (after .0 (h .0, h .3), λ c i. clash (known u) (before c mu .1 i .0) (h .1), h .2)
-
-      from : Implied n m Sheet (Literals d′ x′ y′) u b × ((c : Bool) → Implied n m Sheet (Literals d x y) u c → ⊥) × (u ≢ v) → (known′ u ≡ true) × (known u ≡ false) × (u ≢ v) × (truth′ u ≡ b)
-      from h = (after .1 (h .0) .0, unknown (bool-dec (known u)), h .2, after .1 (h .0) .1)
-        where
-          unknown : (known u ≡ true) ⊎ (known u ≡ false) → known u ≡ false
-          unknown (inl e) = absurd (h .1 (truth u) (before (truth u) mu .0 (e, refl)))
-          unknown (inr e) = e
