@@ -1,6 +1,6 @@
 -- LINE 11, one condition after another: each that holds makes the header closed, and all must fail for it to be fit.
 --   not-open, past-n, past-m, past-kept               the header is closed
---   by-depth, Fit, closed-fit, fit-closed             the bounds that a header within them has
+--   by-depth, closed-fit                              the last condition decides; none holds: the header is fit
 -- Assumes nothing.
 use mathlib.Core.Path.{_≡_, refl, sym, ap, _∙_}
 use mathlib.Core.Bool.{Bool, true, false, not, _||_}
@@ -10,7 +10,7 @@ use lib.Dec.{eqb, ltb}
 use borrow.Author.Tests.{lt-ltb, le-ltb, eq-eqb, ne-eqb, ltb-false, eqb-true, not-false}
 use Rattle.format.proofs.Refusing.{either-first, either-second, either-none, none-either}
 use Rattle.judge.specs.declared.Header.{Header}
-use Rattle.judge.specs.Checks.{closed}
+use Rattle.judge.specs.Checks.{closed, Fit}
 
 module _ (h : Header) where
   pub not-open : (h .«open» ≡ 1 → ⊥) → true ≡ closed h
@@ -32,14 +32,6 @@ module _ (h : Header) where
   -- all conditions but the last fail: the last decides
   pub by-depth : h .«open» ≡ 1 → h .n ≤ 512 → h .m ≤ 256 → h .kept ≤ min (h .n) (h .m) → ltb (h .n) (h .depth) ≡ closed h
   by-depth o n m k = rw (eq-eqb (h .«open») 1 o, le-ltb 512 (h .n) n, le-ltb 256 (h .m) m, le-ltb (min (h .n) (h .m)) (h .kept) k)
-
--- the bounds that line 11 asks for
-pub record Fit (h : Header) : Type 0 where
-  pub is-open : h .«open» ≡ 1
-  pub vars : h .n ≤ 512
-  pub rows : h .m ≤ 256
-  pub kept : h .kept ≤ min (h .n) (h .m)
-  pub depth : h .depth ≤ h .n
 
 pub closed-fit : (h : Header) → closed h ≡ false → Fit h
 closed-fit h e =

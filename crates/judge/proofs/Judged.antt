@@ -10,8 +10,8 @@ use Rattle.gf2.specs.Rows.{Var}
 use Rattle.format.specs.Refusals.{refusal}
 use Rattle.format.proofs.Refusing.{accepted, none-either}
 use Rattle.judge.specs.declared.Header.{Header}
-use Rattle.judge.specs.Checks.{assumeChecks, backChecks, explainChecks}
-use Rattle.judge.proofs.Closed.{Fit, closed-fit}
+use Rattle.judge.specs.Checks.{Fit, assumeChecks, backChecks, explainChecks}
+use Rattle.judge.proofs.Closed.{closed-fit}
 
 pub back-judged : (h : Header) (words depth : ℕ) → refusal (backChecks h words depth) ≡ 0 → Fit h × (4096 ≤ words) × (depth ≤ h .depth)
 back-judged h words depth e =

@@ -1,17 +1,26 @@
 -- THE CHECKS OF THE CALLS ON AN OPEN STATE, in order (document 01, "Refusal numbers").
 --   closed h                    line 11: the header is not open, or one of its numbers is past its bound
+--   Fit h                       it does not: the header is open and within its bounds
 --   assumeChecks, backChecks, explainChecks   the checks that are judged before a call looks into the working buffer
 --   atDepth h d                 the header with another depth: assume and back change nothing else of it
 -- Assumes nothing.
+use mathlib.Core.Path.{_≡_}
 use mathlib.Core.Bool.{Bool, true, false, not, _||_}
 use mathlib.Core.List.{List, [], _∷_}
-use Prim.Native.Nat.{ℕ, _+_, _*_, min}
+use Prim.Native.Nat.{ℕ, _+_, _*_, _≤_, min}
 use lib.Dec.{eqb, ltb}
 use Rattle.format.specs.Refusals.{Check, check}
 use Rattle.judge.specs.declared.Header.{Header}
 
 abbrev pub closed : Header → Bool
 closed h = not (eqb (h .«open») 1) || (ltb 512 (h .n) || (ltb 256 (h .m) || (ltb (min (h .n) (h .m)) (h .kept) || ltb (h .n) (h .depth))))
+
+pub record Fit (h : Header) : Type 0 where
+  pub is-open : h .«open» ≡ 1
+  pub vars : h .n ≤ 512
+  pub rows : h .m ≤ 256
+  pub kept : h .kept ≤ min (h .n) (h .m)
+  pub depth : h .depth ≤ h .n
 
 -- with so many words of working buffer, room for so many literals, and a literal's code
 abbrev pub assumeChecks : Header → ℕ → ℕ → ℕ → List Check

@@ -21,8 +21,7 @@ use Rattle.format.specs.Bits.{bitsOf}
 use Rattle.format.specs.Refusals.{Check, check, refusal}
 use Rattle.format.specs.Sheet.{nOf, mOf, sheetRows, storeWords, reader}
 use Rattle.judge.specs.declared.Header.{Header}
-use Rattle.judge.specs.Checks.{assumeChecks, backChecks, explainChecks, atDepth}
-use Rattle.judge.proofs.Closed.{Fit}
+use Rattle.judge.specs.Checks.{Fit, assumeChecks, backChecks, explainChecks, atDepth}
 use Rattle.tableau.specs.View.{MadeAt}
 use Rattle.parity.specs.declared.Opening.{Opening}
 use Rattle.parity.specs.declared.Opening.the-variants.{OpenRefused, Unsatisfiable, Opened}

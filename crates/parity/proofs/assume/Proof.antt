@@ -5,8 +5,7 @@ use lib.ListN.{length, take}
 use Prim.Native.Nat.{_+_, _*_, _≤_}
 use native.Mathlib.Omega.{arith}
 use Rattle.format.specs.Refusals.{refusal}
-use Rattle.judge.specs.Checks.{assumeChecks}
-use Rattle.judge.proofs.Closed.{Fit}
+use Rattle.judge.specs.Checks.{Fit, assumeChecks}
 use Rattle.judge.proofs.Judged.{assume-judged}
 use Rattle.parity.proofs.Part.{front-long, replaced-worked}
 use Rattle.parity.proofs.Assumed.{taken-facts, promise-refused, promise-held, promise-conflict, promise-stuck, promise-taken}

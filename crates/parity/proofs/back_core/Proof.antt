@@ -4,7 +4,7 @@ use mathlib.Core.Path.{_≡_, refl, sym, _∙_}
 use lib.ListN.{length}
 use Prim.Native.Nat.{_≤_}
 use native.Mathlib.Omega.{arith}
-use Rattle.judge.proofs.Closed.{Fit}
+use Rattle.judge.specs.Checks.{Fit}
 use Rattle.judge.proofs.Judged.{back-judged}
 use Rattle.parity.proofs.Part.{front-long, replaced-worked}
 use Rattle.parity.proofs.Going.{back-stands}

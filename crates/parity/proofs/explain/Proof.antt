@@ -7,8 +7,7 @@ use native.Mathlib.Omega.{arith}
 use borrow.Author.Tests.{not-true, not-false}
 use Rattle.gf2.specs.Rows.{Var}
 use Rattle.format.specs.Refusals.{refusal}
-use Rattle.judge.specs.Checks.{explainChecks}
-use Rattle.judge.proofs.Closed.{Fit}
+use Rattle.judge.specs.Checks.{Fit, explainChecks}
 use Rattle.judge.proofs.Judged.{explain-judged}
 use Rattle.parity.proofs.Explaineds.{promise-denied, promise-no-value, promise-assumed, promise-explained}
 use borrow.Author.Needs.{needs}
