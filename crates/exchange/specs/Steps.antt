@@ -1,5 +1,6 @@
 -- WHAT A LITERAL DOES TO THE BUFFER (document 01, "Assuming"): on every buffer, and what it means for a state of the module.
 --   RowCleared p i r ws w    row p has been added to row r, if that is another and has variable i + 1
+--   Span Step a b ws w       the steps a .. b - 1 one after another, as a chain goes on
 --   Partner ws r p x         x is the lowest variable of row r that has no value and is not p + 1, or 0 where there is none
 --   Found ws k v x           x is the first row below k whose basic variable is v, or k
 --   Exchanged k p u ws w     variable u has been removed from the rows below k but p, and is basic in row p
@@ -25,6 +26,9 @@ use Rattle.settle.specs.Values.{lacks, Restarted}
 
 abbrev pub RowCleared : (p i : ℕ) → ℕ → List ℕ → List ℕ → Type 0
 RowCleared p i r ws w = ((w ≡ ws) × ((r ≡ p) ⊎ (bitAt ws (rowAt r) i ≡ false))) ⊎ ((r ≢ p) × (bitAt ws (rowAt r) i ≡ true) × Added p r ws w)
+
+abbrev pub Span : (ℕ → List ℕ → List ℕ → Type 0) → ℕ → ℕ → List ℕ → List ℕ → Type 0
+Span Step a b ws w = (z : List ℕ) → length ws ≡ length z → Chain Step a z ws → Chain Step b z w
 
 pub record Partner (ws : List ℕ) (r p x : ℕ) : Type 0 where
   pub none : x ≡ 0 → (i : ℕ) → i < 512 → i ≢ p → lacks ws r i ≡ false

@@ -7,34 +7,42 @@ use tableau::TRUTH;
 use tableau::add_row;
 use tableau::set_entry;
 use words::bit;
+ghost use mathlib.Core.Logic.{_≢_, _⊎_};
 ghost use Prim.Native.Nat.{ℕ, _-_, _<_, _≤_};
 ghost use lib.ListN.{length};
 ghost use Rattle.tableau.specs.Layout.{size};
 ghost use Rattle.tableau.specs.Buffer.{Chain};
-ghost use Rattle.exchange.specs.Steps.{RowCleared, Partner, Found, Exchanged, Freed, Stepped};
+ghost use Rattle.exchange.specs.Steps.{RowCleared, Span, Partner, Found, Exchanged, Freed, Stepped};
 
-// Row p is added into row r, if that is another and has the variable v.
+// Row p is added into row r, which is another, if that has the variable v.
 pub fn clear_row(work: &mut [u64], p: usize, v: usize, r: usize)
-    requires { ⌜ (size ≤ length (now work)) × (p < 256) × (r < 256) × (0 < v) × (v ≤ 512) ⌝ }
+    requires { ⌜ (size ≤ length (now work)) × (p < 256) × (r < 256) × (0 < v) × (v ≤ 512) × (r ≢ p) ⌝ }
     ensures { λ _. ⌜ RowCleared p (v - 1) r (now (work .entry)) (now (work .exit)) ⌝ }
 {
-    if r != p {
-        if bit(work, ROW * r, v) {
-            add_row(work, p, r);
-        }
+    if bit(work, ROW * r, v) {
+        add_row(work, p, r);
+    }
+}
+
+// Row p is added into each row from a to below b that has the variable v. Row p is not among them, so no turn asks for it.
+pub fn clear_span(work: &mut [u64], a: usize, b: usize, p: usize, v: usize)
+    requires { ⌜ (size ≤ length (now work)) × (a ≤ b) × (b ≤ 256) × (p < 256) × (0 < v) × (v ≤ 512) × ((b ≤ p) ⊎ (p < a)) ⌝ }
+    ensures { λ _. ⌜ Span (RowCleared p (v - 1)) a b (now (work .entry)) (now (work .exit)) ⌝ }
+{
+    let mut r = a;
+    while r < b {
+        clear_row(work, p, v, r);
+        r += 1;
     }
 }
 
 // Row p is added into each other row below k that has the variable v.
 pub fn clear_rows(work: &mut [u64], k: usize, p: usize, v: usize)
-    requires { ⌜ (size ≤ length (now work)) × (k ≤ 256) × (p < 256) × (0 < v) × (v ≤ 512) ⌝ }
+    requires { ⌜ (size ≤ length (now work)) × (k ≤ 256) × (p < k) × (0 < v) × (v ≤ 512) ⌝ }
     ensures { λ _. ⌜ Chain (RowCleared p (v - 1)) k (now (work .entry)) (now (work .exit)) ⌝ }
 {
-    let mut r = 0;
-    while r < k {
-        clear_row(work, p, v, r);
-        r += 1;
-    }
+    clear_span(work, 0, p, p, v);
+    clear_span(work, p + 1, k, p, v);
 }
 
 // The lowest variable of row r that has no value and is not v, or 0. On a state of the module, where v is basic in row r, it is not basic.
@@ -81,7 +89,7 @@ pub fn find(work: &[u64], k: usize, v: usize) -> usize
 
 // Variable u becomes basic in row p.
 pub fn exchange(work: &mut [u64], k: usize, p: usize, u: usize)
-    requires { ⌜ (size ≤ length (now work)) × (k ≤ 256) × (p < 256) × (0 < u) × (u ≤ 512) ⌝ }
+    requires { ⌜ (size ≤ length (now work)) × (k ≤ 256) × (p < k) × (0 < u) × (u ≤ 512) ⌝ }
     ensures { λ _. ⌜ Exchanged k p u (now (work .entry)) (now (work .exit)) ⌝ }
 {
     clear_rows(work, k, p, u);

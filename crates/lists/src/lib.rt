@@ -7,14 +7,14 @@ use words::bit;
 ghost use mathlib.Core.Path.{_≡_};
 ghost use mathlib.Core.Bool.{Bool, true, not};
 ghost use mathlib.Core.List.{_∷_};
-ghost use Prim.Native.Nat.{ℕ, _-_, _<_, _≤_};
+ghost use Prim.Native.Nat.{ℕ, _+_, _-_, _<_, _≤_};
 ghost use lib.ListN.{length};
 ghost use Rattle.gf2.specs.Answers.{code};
 ghost use Rattle.gf2.proofs.Scans.{scanned};
 ghost use Rattle.words.specs.Words.{bitAt};
 ghost use Rattle.tableau.specs.Layout.{fromAt, knownAt, truthAt, size};
 ghost use Rattle.tableau.specs.View.{vals};
-ghost use Rattle.lists.specs.Listing.{numbers, isNew, isOther, Noted, Listed};
+ghost use Rattle.lists.specs.Listing.{numbers, isNew, isOther, Noted, Listed, Skipped, Passed, fresh};
 
 // The code of the literal that gives v the value b.
 pub fn literal(v: usize, b: bool) -> u64
@@ -38,6 +38,36 @@ pub fn note(out: &mut [u64], c: usize, pick: bool, item: u64) -> usize
         return c + 1;
     }
     c
+}
+
+// The next place from u on, below n, where the word x of place u has a bit; where it has none, a place up to which it has none.
+pub fn skip(x: u64, u: usize, n: usize) -> usize
+    requires { ⌜ (u < n) × (n ≤ 512) ⌝ }
+    ensures { λ p. ⌜ Skipped x u n p ⌝ }
+{
+    let s = u % 64;
+    let p = u + u64::leading_zeros(x << s) as usize;
+    let last = u - s + 63;
+    let q = if p < last { p } else { last };
+    if q < n { q } else { n - 1 }
+}
+
+// The next place from u on that may have a bit in the eight words from place a.
+pub fn next_bit(ws: &[u64], a: usize, u: usize, n: usize) -> usize
+    requires { ⌜ (a + 8 ≤ length (now ws)) × (u < n) × (n ≤ 512) ⌝ }
+    ensures { λ p. ⌜ Passed (bitAt (now (ws .entry)) a) u n p ⌝ }
+{
+    skip(ws[a + u / 64], u, n)
+}
+
+// The next place from u on that may have a value now and none before.
+pub fn next_new(work: &[u64], old: &[u64], u: usize, n: usize) -> usize
+    requires { ⌜ (size ≤ length (now work)) × (8 ≤ length (now old)) × (u < n) × (n ≤ 512) ⌝ }
+    ensures { λ p. ⌜ Passed (fresh (now (work .entry)) (now (old .entry))) u n p ⌝ }
+{
+    let j = u / 64;
+    let x = work[KNOWN + j];
+    skip(x ^ (x & old[j]), u, n)
 }
 
 // Whether u has a value, had none before, and is not v.
@@ -73,10 +103,11 @@ pub fn list_new(work: &[u64], old: &[u64], v: usize, n: usize, out: &mut [u64]) 
     let mut c = 0;
     let mut u = 0;
     while u < n {
-        let pick = is_new(work, old, v, u + 1);
-        let item = literal(u + 1, bit(work, TRUTH, u + 1));
+        let p = next_new(work, old, u, n);
+        let pick = is_new(work, old, v, p + 1);
+        let item = literal(p + 1, bit(work, TRUTH, p + 1));
         c = note(out, c, pick, item);
-        u += 1;
+        u = p + 1;
     }
     c
 }
@@ -98,10 +129,11 @@ pub fn list_others(work: &[u64], r: usize, v: usize, n: usize, out: &mut [u64]) 
     let mut c = 1;
     let mut u = 0;
     while u < n {
-        let pick = is_other(work, r, v, u + 1);
-        let item = literal(u + 1, !bit(work, TRUTH, u + 1));
+        let p = next_bit(work, ROW * r, u, n);
+        let pick = is_other(work, r, v, p + 1);
+        let item = literal(p + 1, !bit(work, TRUTH, p + 1));
         c = note(out, c, pick, item);
-        u += 1;
+        u = p + 1;
     }
     c
 }
@@ -123,9 +155,10 @@ pub fn list_rows(work: &[u64], r: usize, m: usize, out: &mut [u64]) -> usize
     let mut c = 0;
     let mut j = 0;
     while j < m {
-        let pick = bit(work, ROW * r + FROM, j + 1);
-        c = note(out, c, pick, (j + 1) as u64);
-        j += 1;
+        let p = next_bit(work, ROW * r + FROM, j, m);
+        let pick = bit(work, ROW * r + FROM, p + 1);
+        c = note(out, c, pick, (p + 1) as u64);
+        j = p + 1;
     }
     c
 }

@@ -47,9 +47,11 @@ pub fn reduce_by(work: &mut [u64], k: usize, r: usize)
     requires { ⌜ (size ≤ length (now work)) × (k < 256) × (r < k) ⌝ }
     ensures { λ _. ⌜ Reduced k r (now (work .entry)) (now (work .exit)) ⌝ }
 {
-    let v = work[ROW * r + LAST] / 2;
-    if v > 0 {
-        if v <= 512 {
+    let x = work[ROW * r + LAST];
+    if x >= 2 {
+        if x < 1026 {
+            // x / 2, such that x / 2 - 1 is one shift
+            let v = (x - 2) / 2 + 1;
             if bit(work, ROW * k, v as usize) {
                 add_row(work, r, k);
             }

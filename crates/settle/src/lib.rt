@@ -63,14 +63,14 @@ pub fn ready(work: &[u64], r: usize) -> usize
     requires { ⌜ (size ≤ length (now work)) × (r < 256) ⌝ }
     ensures { λ x. ⌜ Ready (now (work .entry)) r x ⌝ }
 {
-    let v = work[ROW * r + LAST] / 2;
-    if v == 0 {
+    let x = work[ROW * r + LAST];
+    if x < 2 {
         return 0;
     }
-    if v > 512 {
+    if x >= 1026 {
         return 0;
     }
-    let u = v as usize;
+    let u = (x / 2) as usize;
     if full(work, r, u) { u } else { 0 }
 }
 

@@ -2,7 +2,6 @@
 -- Assumes nothing.
 use mathlib.Core.Logic.{inl, inr}
 use mathlib.Core.Path.{refl, sym, _∙_}
-use native.Mathlib.Omega.{arith}
 use borrow.Author.Needs.{needs}
 use Rattle.exchange.proofs.clear_row.Statement.{statement}
 use Rattle.exchange.proofs.clear_row.Tie as tie
@@ -20,26 +19,15 @@ same-length : tie.Need-same-length
 same-length c = search needs
 
 returns : tie.Need-returns
-returns c = inr (λ e. omega (arith, c .before .before .before .before .before .before .before .if1 .taken), sym (c .before .before .before .before .before .bit .ensures) ∙ c .before .before .before .before .if2 .taken, c .before .before .add-row .ensures)
+returns c = let s = c .before .before .before .before .before .before .before .before in inr (s .pre .5, sym (c .before .before .before .before .before .bit .ensures) ∙ c .before .before .before .before .if1 .taken, c .before .before .add-row .ensures)
 
 same-length-2 : tie.Need-same-length-2
 same-length-2 c = search needs
 
 returns-2 : tie.Need-returns-2
-returns-2 c = inl (refl, inr (sym (c .before .bit .ensures) ∙ c .if2 .left))
-
-returns-3 : tie.Need-returns-3
-returns-3 c = inl (refl, inl (omega (arith, c .if1 .left)))
+returns-2 c = inl (refl, inr (sym (c .before .bit .ensures) ∙ c .if1 .left))
 
 pub clear-row-spec : {M : Type 1} → statement M
 clear-row-spec =
     tie.close
-    (tie.spec
-    mul-bit
-    bit-requires
-    add-row-requires
-    same-length
-    returns
-    same-length-2
-    returns-2
-    returns-3)
+    (tie.spec mul-bit bit-requires add-row-requires same-length returns same-length-2 returns-2)

@@ -10,6 +10,7 @@ use Rattle.tableau.specs.Layout.{truthAt}
 use Rattle.tableau.specs.View.{vals}
 use Rattle.lists.specs.Listing.{isNew, Listed}
 use Rattle.lists.proofs.Picking.{scanned-start, scanned-turn, noted-le, vals-at}
+use Rattle.lists.proofs.Skipping.{new-pass}
 use Rattle.lists.proofs.list_new.Statement.{statement}
 use Rattle.lists.proofs.list_new.Tie as tie
 
@@ -21,6 +22,9 @@ abbrev μ-loop : tie.MeasureT-loop
 
 loop-holds : tie.Need-loop-holds Inv-loop μ-loop
 loop-holds c = (omega arith, omega arith, scanned-start _ _ _ _ _ (omega arith))
+
+next-new-requires : tie.Need-next-new-requires Inv-loop μ-loop
+next-new-requires c κs = search needs
 
 add-is-new : tie.Need-add-is-new Inv-loop μ-loop
 add-is-new c = search needs
@@ -41,22 +45,25 @@ literal-requires : tie.Need-literal-requires Inv-loop μ-loop
 literal-requires c κs = search needs
 
 note-requires : tie.Need-note-requires Inv-loop μ-loop
-note-requires c κs = λ e. omega (arith, c .before .before .before .before .before .loop .inv .2 .long)
+note-requires c κs = λ e. omega (arith, c .before .before .before .before .before .before .loop .inv .2 .long, c .before .before .before .before .next-new .ensures .low, c .before .before .before .before .next-new .ensures .high)
 
 add-u : tie.Need-add-u Inv-loop μ-loop
 add-u c = search needs
 
 loop-less : tie.Need-loop-less Inv-loop μ-loop
-loop-less c = search needs
+loop-less c = omega (arith, c .before .before .before .before .before .before .before .next-new .ensures .low)
 
 loop-again : tie.Need-loop-again Inv-loop μ-loop
-loop-again c = let a = c .before .before .before .before .before .before .before .before .before .before .before .before .args in
-    let l = c .before .before .before .before .before .before .before .before .loop in
+loop-again c = let a = c .before .before .before .before .before .before .before .before .before .before .before .before .before .args in
+    let l = c .before .before .before .before .before .before .before .before .before .loop in
+    let s = c .before .before .before .before .before .before .before .next-new in
+    let lo = s .ensures .low in
+    let hi = s .ensures .high in
     let w = c .before .before .note .ensures in (
       omega arith,
       omega (arith, noted-le _ _ _ _ _ _ w),
-      scanned-turn (a .n) 0 (l .u) (isNew (a .work .now) (a .old .now) (a .v)) (vals (a .work .now) truthAt) (a .out .now) (l .out) _ (l .c) _ _ _ (l .inv .2) (c .before .before .before .before .before .before .is-new .ensures)
-          (c .before .before .before .before .literal .ensures ∙ ap (code (l .u + 1)) (c .before .before .before .before .before .bit .ensures ∙ sym (vals-at (a .work .now) truthAt (l .u + 1) (omega arith)))) (λ e. omega arith) (omega arith) w,
+      scanned-turn (a .n) 0 (s .result) (isNew (a .work .now) (a .old .now) (a .v)) (vals (a .work .now) truthAt) (a .out .now) (l .out) _ (l .c) _ _ _ (rw (new-pass (a .work .now) (a .v) (l .u) (a .n) (s .result) (vals (a .work .now) truthAt) (a .old .now) (s .ensures)) (l .inv .2)) (c .before .before .before .before .before .before .is-new .ensures)
+          (c .before .before .before .before .literal .ensures ∙ ap (code (s .result + 1)) (c .before .before .before .before .before .bit .ensures ∙ sym (vals-at (a .work .now) truthAt (s .result + 1) (omega arith)))) (λ e. omega arith) (omega arith) w,
     )
 
 same-length : tie.Need-same-length Inv-loop μ-loop
@@ -72,6 +79,7 @@ list-new-spec =
     Inv-loop
     μ-loop
     loop-holds
+    next-new-requires
     add-is-new
     is-new-requires
     add-literal

@@ -11,6 +11,7 @@ use Rattle.tableau.specs.Layout.{truthAt}
 use Rattle.tableau.specs.View.{vals}
 use Rattle.lists.specs.Listing.{isOther, Listed}
 use Rattle.lists.proofs.Picking.{scanned-start, scanned-turn, vals-at, other-ne, Room, room-start, room-pick, room-next}
+use Rattle.lists.proofs.Skipping.{others-pass, room-pass}
 use Rattle.lists.proofs.list_others.Statement.{statement}
 use Rattle.lists.proofs.list_others.Tie as tie
 
@@ -22,6 +23,12 @@ abbrev μ-loop : tie.MeasureT-loop
 
 loop-holds : tie.Need-loop-holds Inv-loop μ-loop
 loop-holds c = (omega arith, room-start _ (omega arith), scanned-start _ _ _ _ _ (omega arith))
+
+mul-next-bit : tie.Need-mul-next-bit Inv-loop μ-loop
+mul-next-bit c = search needs
+
+next-bit-requires : tie.Need-next-bit-requires Inv-loop μ-loop
+next-bit-requires c κs = search needs
 
 add-is-other : tie.Need-add-is-other Inv-loop μ-loop
 add-is-other c = search needs
@@ -42,25 +49,33 @@ literal-requires : tie.Need-literal-requires Inv-loop μ-loop
 literal-requires c κs = search needs
 
 note-requires : tie.Need-note-requires Inv-loop μ-loop
-note-requires c κs = let a = c .before .before .before .before .before .before .before .before .args in
-    let l = c .before .before .before .before .before .loop in
-    λ e. omega (arith, l .inv .2 .long, room-pick (a .n) (a .v) (l .u) (l .c) (l .inv .1) (omega arith) (omega arith) (other-ne (a .work .now) (a .r) (a .v) (l .u + 1) (sym (c .before .before .before .is-other .ensures) ∙ e)))
+note-requires c κs = let a = c .before .before .before .before .before .before .before .before .before .args in
+    let l = c .before .before .before .before .before .before .loop in
+    let s = c .before .before .before .before .next-bit in
+    let lo = s .ensures .low in
+    let hi = s .ensures .high in
+    λ e. omega (arith, l .inv .2 .long, room-pick (a .n) (a .v) (s .result) (l .c) (room-pass (a .v) (l .u) (s .result) (l .c) lo (l .inv .1)) (omega arith) (omega arith) (other-ne (a .work .now) (a .r) (a .v) (s .result + 1) (sym (c .before .before .before .is-other .ensures) ∙ e)))
 
 add-u : tie.Need-add-u Inv-loop μ-loop
 add-u c = search needs
 
 loop-less : tie.Need-loop-less Inv-loop μ-loop
-loop-less c = search needs
+loop-less c = omega (arith, c .before .before .before .before .before .before .before .next-bit .ensures .low)
 
 loop-again : tie.Need-loop-again Inv-loop μ-loop
-loop-again c = let a = c .before .before .before .before .before .before .before .before .before .before .before .args in
-    let l = c .before .before .before .before .before .before .before .before .loop in
-    let w = c .before .before .note .ensures in (
+loop-again c = let a = c .before .before .before .before .before .before .before .before .before .before .before .before .args in
+    let l = c .before .before .before .before .before .before .before .before .before .loop in
+    let s = c .before .before .before .before .before .before .before .next-bit in
+    let lo = s .ensures .low in
+    let hi = s .ensures .high in
+    let w = c .before .before .note .ensures in
+    let o = c .before .before .before .before .before .before .is-other .ensures in
+    let room = room-pass (a .v) (l .u) (s .result) (l .c) lo (l .inv .1) in (
       omega arith,
-      room-next (a .v) (l .u) (l .c) _ _ _ _ _ (l .inv .1) (λ e. other-ne (a .work .now) (a .r) (a .v) (l .u + 1) (sym (c .before .before .before .before .before .before .is-other .ensures) ∙ e)) w,
-      scanned-turn (a .n) 1 (l .u) (isOther (a .work .now) (a .r) (a .v)) (λ z. not (vals (a .work .now) truthAt z)) (a .out .now) (l .out) _ (l .c) _ _ _ (l .inv .2) (c .before .before .before .before .before .before .is-other .ensures)
-          (c .before .before .before .before .literal .ensures ∙ ap (λ (z : Bool). code (l .u + 1) (not z)) (c .before .before .before .before .before .bit .ensures ∙ sym (vals-at (a .work .now) truthAt (l .u + 1) (omega arith))))
-          (λ e. room-pick (a .n) (a .v) (l .u) (l .c) (l .inv .1) (omega arith) (omega arith) (other-ne (a .work .now) (a .r) (a .v) (l .u + 1) (sym (c .before .before .before .before .before .before .is-other .ensures) ∙ e))) (omega arith) w,
+      room-next (a .v) (s .result) (l .c) _ _ _ _ _ room (λ e. other-ne (a .work .now) (a .r) (a .v) (s .result + 1) (sym o ∙ e)) w,
+      scanned-turn (a .n) 1 (s .result) (isOther (a .work .now) (a .r) (a .v)) (λ z. not (vals (a .work .now) truthAt z)) (a .out .now) (l .out) _ (l .c) _ _ _ (rw (others-pass (a .work .now) (a .v) (l .u) (a .n) (s .result) (λ z. not (vals (a .work .now) truthAt z)) (a .r) (s .ensures)) (l .inv .2)) o
+          (c .before .before .before .before .literal .ensures ∙ ap (λ (z : Bool). code (s .result + 1) (not z)) (c .before .before .before .before .before .bit .ensures ∙ sym (vals-at (a .work .now) truthAt (s .result + 1) (omega arith))))
+          (λ e. room-pick (a .n) (a .v) (s .result) (l .c) room (omega arith) (omega arith) (other-ne (a .work .now) (a .r) (a .v) (s .result + 1) (sym o ∙ e))) (omega arith) w,
     )
 
 same-length : tie.Need-same-length Inv-loop μ-loop
@@ -76,6 +91,8 @@ list-others-spec =
     Inv-loop
     μ-loop
     loop-holds
+    mul-next-bit
+    next-bit-requires
     add-is-other
     is-other-requires
     add-literal

@@ -1,23 +1,34 @@
 -- `opening::reduce_by` meets its contract.
 -- Assumes nothing.
+use mathlib.Core.Bool.{Bool}
+use mathlib.Core.List.{List}
 use mathlib.Core.Logic.{inl, inr}
-use mathlib.Core.Path.{refl, sym, _∙_}
+use mathlib.Core.Path.{_≡_, refl, sym, ap, _∙_}
+use Prim.Native.Nat.{ℕ, _+_, _-_, _/_, _≤_}
 use native.Mathlib.Omega.{arith}
 use borrow.Author.Needs.{needs}
+use Rattle.words.specs.Words.{bitAt}
 use Rattle.opening.proofs.reduce_by.Statement.{statement}
 use Rattle.opening.proofs.reduce_by.Tie as tie
 
-mul-v : tie.Need-mul-v
-mul-v c = search needs
+-- the bit of the basic variable, as the code reads it from the last word x
+basic-bit : (ws : List ℕ) (a x : ℕ) (r b : Bool) → 2 ≤ x → r ≡ bitAt ws a ((x - 2) / 2 + 1 - 1) → r ≡ b → bitAt ws a (x / 2 - 1) ≡ b
+basic-bit ws a x r b l e h = let q : x / 2 - 1 ≡ (x - 2) / 2 + 1 - 1 = omega arith in ap (bitAt ws a) q ∙ sym e ∙ h
+
+mul-x : tie.Need-mul-x
+mul-x c = search needs
+
+add-x : tie.Need-add-x
+add-x c = search needs
+
+mul-x-2 : tie.Need-mul-x-2
+mul-x-2 c = search needs
+
+slice-read-x : tie.Need-slice-read-x
+slice-read-x c = search needs
 
 add-v : tie.Need-add-v
 add-v c = search needs
-
-mul-v-2 : tie.Need-mul-v-2
-mul-v-2 c = search needs
-
-slice-read-v : tie.Need-slice-read-v
-slice-read-v c = search needs
 
 mul-bit : tie.Need-mul-bit
 mul-bit c = search needs
@@ -32,13 +43,16 @@ same-length : tie.Need-same-length
 same-length c = search needs
 
 returns : tie.Need-returns
-returns c = inr (c .before .before .before .before .before .before .before .before .if1 .taken, c .before .before .before .before .before .before .before .if2 .taken, sym (c .before .before .before .before .before .bit .ensures) ∙ c .before .before .before .before .if3 .taken, c .before .before .add-row .ensures)
+returns c = let t = c .before .before .before .before in
+    let lo = t .before .before .before .before .if1 .taken in
+    let hi = t .before .before .before .if2 .taken in
+    inr (omega (arith, lo), omega (arith, hi), basic-bit _ _ _ _ _ lo (t .before .bit .ensures) (t .if3 .taken), c .before .before .add-row .ensures)
 
 same-length-2 : tie.Need-same-length-2
 same-length-2 c = search needs
 
 returns-2 : tie.Need-returns-2
-returns-2 c = inl (refl, λ lo hi. sym (c .before .bit .ensures) ∙ c .if3 .left)
+returns-2 c = inl (refl, λ lo hi. basic-bit _ _ _ _ _ (c .before .before .before .before .if1 .taken) (c .before .bit .ensures) (c .if3 .left))
 
 returns-3 : tie.Need-returns-3
 returns-3 c = inl (refl, λ lo hi. absurd (omega (arith, c .if2 .left)))
@@ -50,10 +64,11 @@ pub reduce-by-spec : {M : Type 1} → statement M
 reduce-by-spec =
     tie.close
     (tie.spec
-    mul-v
+    mul-x
+    add-x
+    mul-x-2
+    slice-read-x
     add-v
-    mul-v-2
-    slice-read-v
     mul-bit
     bit-requires
     add-row-requires

@@ -6,17 +6,17 @@ use borrow.Author.Needs.{needs}
 use Rattle.settle.proofs.ready.Statement.{statement}
 use Rattle.settle.proofs.ready.Tie as tie
 
-mul-v : tie.Need-mul-v
-mul-v c = search needs
+mul-x : tie.Need-mul-x
+mul-x c = search needs
 
-add-v : tie.Need-add-v
-add-v c = search needs
+add-x : tie.Need-add-x
+add-x c = search needs
 
-mul-v-2 : tie.Need-mul-v-2
-mul-v-2 c = search needs
+mul-x-2 : tie.Need-mul-x-2
+mul-x-2 c = search needs
 
-shared-slice-read-v : tie.Need-shared-slice-read-v
-shared-slice-read-v c = search needs
+shared-slice-read-x : tie.Need-shared-slice-read-x
+shared-slice-read-x c = search needs
 
 returns : tie.Need-returns
 returns c = record { none = λ e can. let lo = can .low in omega (arith, c .if1 .taken); some = λ f. absurd (f refl) }
@@ -40,10 +40,10 @@ pub ready-spec : {M : Type 1} → statement M
 ready-spec =
     tie.close
     (tie.spec
-    mul-v
-    add-v
-    mul-v-2
-    shared-slice-read-v
+    mul-x
+    add-x
+    mul-x-2
+    shared-slice-read-x
     returns
     returns-2
     full-requires
