@@ -1,37 +1,29 @@
+-- `lists::next_new` meets its contract.
+-- Assumes nothing.
 use mathlib.Core.Path.{refl}
 use Rattle.lists.proofs.Skipping.{passed-fresh}
 use borrow.Author.Needs.{needs}
 use Rattle.lists.proofs.next_new.Statement.{statement}
 use Rattle.lists.proofs.next_new.Tie as tie
-use Rattle.lists.proofs.next_new.Reads as reads
-use Rattle.lists.proofs.next_new.Lts as lts
-use Rattle.lists.proofs.skip.Reads as skip-reads
 
--- src/lib.rt:69:18
 add-x : tie.Need-add-x
 add-x c = search needs
 
--- src/lib.rt:69:13
 mul-x : tie.Need-mul-x
 mul-x c = search needs
 
--- src/lib.rt:69:13
 shared-slice-read-x : tie.Need-shared-slice-read-x
 shared-slice-read-x c = search needs
 
--- src/lib.rt:70:19
 mul-skip : tie.Need-mul-skip
 mul-skip c = search needs
 
--- src/lib.rt:70:19
 shared-slice-read-skip : tie.Need-shared-slice-read-skip
 shared-slice-read-skip c = search needs
 
--- src/lib.rt:70:5
 skip-requires : tie.Need-skip-requires
 skip-requires c κs = search needs
 
--- src/lib.rt:64:1
 returns : tie.Need-returns
 returns c = passed-fresh (c .skip .ensures) _ _ refl
 

@@ -1,3 +1,5 @@
+-- `lists::skip` meets its contract.
+-- Assumes nothing.
 use mathlib.Core.Logic.{⊎-elim}
 use Prim.Native.Nat.{_*_, _%_, _^_}
 use native.Mathlib.Omega.{arith}
@@ -6,38 +8,28 @@ use Rattle.lists.proofs.Skipping.{skipped}
 use borrow.Author.Needs.{needs}
 use Rattle.lists.proofs.skip.Statement.{statement}
 use Rattle.lists.proofs.skip.Tie as tie
-use Rattle.lists.proofs.skip.Reads as reads
-use Rattle.lists.proofs.skip.Lts as lts
 
--- src/lib.rt:49:36
 shl-p : tie.Need-shl-p
 shl-p c = search needs
 
--- src/lib.rt:49:17
 cast-p : tie.Need-cast-p
 cast-p c = omega (arith, leading-le 64 (c .args .x * 2 ^ (c .args .u % 64) % 2 ^ 64))
 
--- src/lib.rt:49:13
 add-p : tie.Need-add-p
 add-p c = omega (arith, leading-le 64 (c .args .x * 2 ^ (c .args .u % 64) % 2 ^ 64))
 
--- src/lib.rt:50:16
 sub-last : tie.Need-sub-last
 sub-last c = search needs
 
--- src/lib.rt:50:16
 add-last : tie.Need-add-last
 add-last c = search needs
 
--- src/lib.rt:52:27
 sub-result : tie.Need-sub-result
 sub-result c = search needs
 
--- src/lib.rt:44:1
 returns : tie.Need-returns
 returns c = ⊎-elim (λ w. skipped _ _ _ _ (omega arith) (omega arith) (omega arith) (omega arith)) (λ w. skipped _ _ _ _ (omega arith) (omega arith) (omega arith) (omega arith)) (c .before .if1 .came)
 
--- src/lib.rt:44:1
 returns-2 : tie.Need-returns-2
 returns-2 c = ⊎-elim (λ w. skipped _ _ _ _ (omega arith) (omega arith) (omega arith) (omega arith)) (λ w. skipped _ _ _ _ (omega arith) (omega arith) (omega arith) (omega arith)) (c .before .if1 .came)
 
