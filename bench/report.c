@@ -131,7 +131,7 @@ void write_report(FILE *out, const results *r)
             "- elim/plain: opening less reading, against the same elimination in plain C (`bench/plain.c`, gcc -O3)\n"
             "- the others: one call against one opening, or against one reading\n\n");
     system_table(out, r);
-    fprintf(out, "\n## Limits at 256 rows of 512 variables\n\n");
+    fprintf(out, "\n## Limits for a dense sheet of 256 rows and 512 variables\n\n");
     limit(out, "reading against opening", by(largest->read, largest->open), 0.1);
     limit(out, "writing against reading", by(largest->write, largest->read), 2.0);
     fprintf(out, "\n## Growth: dense, m = n / 2, microseconds\n\n");
