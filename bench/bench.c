@@ -1,6 +1,7 @@
 /* bench [--smoke] [REPORT PLOT]: times the module against plain C and M4RI in one process, so that the ratios mean
- * something on any machine. The systems are seeded; a time is that of the best call in several rounds, and in every
- * round all contestants take their turn. */
+ * something on any machine. The systems are seeded, several of a kind, so that no contestant meets the same one twice in
+ * a row. In every round all contestants take their turn, one after another; a turn's time is that of its best batch of
+ * calls, and a ratio is the median over the rounds. */
 #define _POSIX_C_SOURCE 199309L
 #include "bench.h"
 #include <stdio.h>
@@ -8,8 +9,9 @@
 #include <string.h>
 #include <time.h>
 
-static int rounds = 7;
-static double round_us = 5000; /* how long a contestant's turn lasts at least */
+static int rounds = ROUNDS;
+static double batch_us = 400; /* how long a batch lasts at least */
+enum { BATCHES = 3, SAMPLES = 8 };
 
 static double now_us(void)
 {
@@ -20,7 +22,8 @@ static double now_us(void)
 
 /* ---- the contestants ---- */
 
-static sample system_now;
+static sample samples[SAMPLES];
+static const sample *now; /* the one that is worked on */
 static parity_header header;
 static uint64_t store[PARITY_STORE_WORDS], work[PARITY_WORK_WORDS];
 static uint64_t literals[PARITY_MAX_VARIABLES], rows[PARITY_MAX_ROWS];
@@ -37,38 +40,36 @@ static void must(int fact, const char *what)
 
 static void do_read(void)
 {
-    must(parity_read(system_now.sheet, system_now.size, store, PARITY_STORE_WORDS).number == PARITY_DONE,
-         "read refused");
+    must(parity_read(now->sheet, now->size, store, PARITY_STORE_WORDS).number == PARITY_DONE, "read refused");
 }
 
 static void do_write(void)
 {
-    must(parity_write(system_now.n, system_now.m, system_now.store, PARITY_STORE_WORDS, written, sizeof written)
-                 .number == PARITY_DONE,
+    must(parity_write(now->n, now->m, now->store, PARITY_STORE_WORDS, written, sizeof written).number == PARITY_DONE,
          "write refused");
 }
 
 static void do_open(void)
 {
-    parity_opening o = parity_open(header, system_now.sheet, system_now.size, store, PARITY_STORE_WORDS, work,
-                                   PARITY_WORK_WORDS, literals, PARITY_MAX_VARIABLES, rows, PARITY_MAX_ROWS);
+    parity_opening o = parity_open(header, now->sheet, now->size, store, PARITY_STORE_WORDS, work, PARITY_WORK_WORDS,
+                                   literals, PARITY_MAX_VARIABLES, rows, PARITY_MAX_ROWS);
     must(o.number == PARITY_DONE, "open refused");
     header = o.header;
 }
 
 static void do_decode(void)
 {
-    plain_decode(system_now.sheet, system_now.n, system_now.m, store);
+    plain_decode(now->sheet, now->n, now->m, store);
 }
 
 static void do_plain(void)
 {
-    must(plain_eliminate(system_now.store, system_now.m, plain_rows) > 0, "plain elimination found a contradiction");
+    must(plain_eliminate(now->store, now->m, plain_rows) > 0, "plain elimination found a contradiction");
 }
 
 static void do_m4ri(void)
 {
-    m4ri_open(system_now.sheet, system_now.n, system_now.m);
+    m4ri_open(now->sheet, now->n, now->m);
 }
 
 static void keep_best(double *best, double us)
@@ -77,24 +78,30 @@ static void keep_best(double *best, double us)
         *best = us;
 }
 
-static void take_turn(void (*contestant)(void), double *best)
+/* How long one call takes: the best batch of several. */
+static double take_turn(void (*contestant)(void))
 {
-    double first = now_us(), start, end;
-    int calls = 0;
-    do {
-        start = now_us();
-        contestant();
-        end = now_us();
-        keep_best(best, end - start);
-    } while (++calls < 3 || end - first < round_us);
+    double best = 0;
+    int batch;
+    for (batch = 0; batch < BATCHES; batch++) {
+        double start = now_us(), end;
+        int calls = 0;
+        do {
+            for (now = samples; now < samples + SAMPLES; now++, calls++)
+                contestant();
+            end = now_us();
+        } while (end - start < batch_us);
+        keep_best(&best, (end - start) / calls);
+    }
+    return best;
 }
 
 /* ---- a search in the small: assume all variables in a random order, explain each, go back in steps ---- */
 
-static void take_all(timing *t, uint64_t *seed)
+static void take_all(double *us, uint64_t *seed)
 {
     uint64_t order[PARITY_MAX_VARIABLES];
-    size_t n = system_now.n, i;
+    size_t n = now->n, i;
     double start;
     for (i = 0; i < n; i++) {
         size_t other = random_word(seed) % (i + 1);
@@ -104,65 +111,74 @@ static void take_all(timing *t, uint64_t *seed)
     start = now_us();
     for (i = 0; i < n; i++)
         header = parity_assume(header, work, PARITY_WORK_WORDS, literals, PARITY_MAX_VARIABLES, order[i]).header;
-    keep_best(&t->assume, (now_us() - start) / (double)n);
+    keep_best(&us[ASSUME], (now_us() - start) / (double)n);
 }
 
-static void explain_all(timing *t)
+static void explain_all(double *us)
 {
     double start = now_us();
     size_t v;
-    for (v = 1; v <= system_now.n; v++)
+    for (v = 1; v <= now->n; v++)
         parity_explain(header, work, PARITY_WORK_WORDS, literals, PARITY_MAX_VARIABLES, rows, PARITY_MAX_ROWS, v);
-    keep_best(&t->explain, (now_us() - start) / (double)system_now.n);
+    keep_best(&us[EXPLAIN], (now_us() - start) / (double)now->n);
 }
 
-static void go_back(timing *t)
+static void go_back(double *us)
 {
     double start = now_us();
     int steps = 0;
     for (; header.depth > 0; steps++)
         must(parity_back(&header, work, PARITY_WORK_WORDS, header.depth - (header.depth + 7) / 8) == PARITY_DONE,
              "back refused");
-    keep_best(&t->back, (now_us() - start) / steps);
+    keep_best(&us[BACK], (now_us() - start) / steps);
 }
 
-static void time_search(timing *t)
+static void search(double *us, uint64_t *seed)
 {
-    uint64_t seed = 99;
-    double start = now_us();
-    do {
-        take_all(t, &seed);
-        explain_all(t);
-        go_back(t);
-    } while (now_us() - start < rounds * round_us);
+    for (now = samples; now < samples + SAMPLES; now++) {
+        do_open();
+        take_all(us, seed);
+        explain_all(us);
+        go_back(us);
+    }
 }
 
-/* ---- one system ---- */
+/* ---- one kind of system ---- */
+
+static void check_all(void)
+{
+    for (now = samples; now < samples + SAMPLES; now++) {
+        do_open();
+        do_write();
+        must(header.kept == plain_eliminate(now->store, now->m, plain_rows), "kept counts differ");
+        must(memcmp(written, now->sheet, now->size) == 0, "the written sheet differs");
+    }
+}
 
 static timing time_system(family f, size_t n, size_t m)
 {
     timing t;
-    int round;
+    uint64_t seed = 99;
+    int i;
     memset(&t, 0, sizeof t);
     t.family = f;
     t.n = n;
     t.m = m;
-    make_sample(&system_now, f, n, m, 1000 * n + m);
+    for (i = 0; i < SAMPLES; i++)
+        make_sample(&samples[i], f, n, m, 1000000 * (uint64_t)i + 1000 * n + m);
+    check_all();
     m4ri_start(n, m);
-    for (round = 0; round < rounds; round++) {
-        take_turn(do_read, &t.read);
-        take_turn(do_write, &t.write);
-        take_turn(do_open, &t.open);
-        take_turn(do_decode, &t.decode);
-        take_turn(do_plain, &t.plain);
-        if (m4ri_there())
-            take_turn(do_m4ri, &t.m4ri);
+    for (t.rounds = 0; t.rounds < rounds; t.rounds++) {
+        double *us = t.us[t.rounds];
+        us[READ] = take_turn(do_read);
+        us[WRITE] = take_turn(do_write);
+        us[DECODE] = take_turn(do_decode);
+        us[PLAIN] = take_turn(do_plain);
+        us[M4RI] = m4ri_there() ? take_turn(do_m4ri) : 0;
+        us[OPEN] = take_turn(do_open);
+        search(us, &seed);
     }
     m4ri_end();
-    do_open();
-    must(header.kept == plain_eliminate(system_now.store, m, plain_rows), "kept counts differ");
-    must(memcmp(written, system_now.sheet, system_now.size) == 0, "the written sheet differs");
-    time_search(&t);
     return t;
 }
 
@@ -181,7 +197,7 @@ int main(int argc, char **argv)
     size_t i;
     if (argc > 1 && strcmp(argv[1], "--smoke") == 0) {
         rounds = 1;
-        round_us = 300;
+        batch_us = 0;
         argc--;
         argv++;
     }

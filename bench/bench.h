@@ -40,11 +40,15 @@ void m4ri_end(void);
 
 /* ---- report.c ---- */
 
+typedef enum { READ, WRITE, OPEN, DECODE, PLAIN, M4RI, ASSUME, BACK, EXPLAIN, TURNS } turn_of;
+
+enum { ROUNDS = 15 };
+
 typedef struct {
     family family;
     size_t n, m;
-    /* microseconds a call; m4ri is 0 where it is missing */
-    double read, write, open, decode, plain, m4ri, assume, back, explain;
+    int rounds;
+    double us[ROUNDS][TURNS]; /* microseconds a call, by round; M4RI's are 0 where it is missing */
 } timing;
 
 enum { SYSTEMS = 9, STEPS = 8 };

@@ -58,12 +58,12 @@ module _ (y off v : ℕ) (hy : y < 2 ^ 8) (h : off < 8) (hv : v < 2 ^ 64) where
       ap (λ (n : ℕ). bitOr n (v / 2 ^ off)) (shl-exact off (64 - off) 64 head-top (omega arith)) ∙ or-shifted t (64 - off) (v / 2 ^ off) head-low
 
 -- what `last_bits` computes
-pub last-calc : (v count p x : ℕ) → count < 64 → v < 2 ^ 64 → x ≡ v / 2 ^ (64 - count) → bitOr (x * 2 ^ 1 % 2 ^ 64) (bitAnd p 1) ≡ v / 2 ^ (64 - count) * 2 ^ 1 + p % 2 ^ 1
-last-calc v count p x h hv ex =
-    let y : ℕ = v / 2 ^ (64 - count) in
+pub last-calc : (v count p x y : ℕ) → count < 64 → v < 2 ^ 64 → x ≡ v / 2 ^ (64 - count) → y ≡ p % 2 ^ 1 → bitOr (x * 2 ^ 1 % 2 ^ 64) y ≡ v / 2 ^ (64 - count) * 2 ^ 1 + p % 2 ^ 1
+last-calc v count p x y h hv ex ey =
+    let z : ℕ = v / 2 ^ (64 - count) in
     let e : count + (64 - count) ≡ 64 = omega arith in
     let l : count ≤ 63 = omega arith in
     let m : 2 ^ count ≤ 2 ^ 63 = pow-mono l in
-    let hy′ : y < 2 ^ count = shr-lt count (64 - count) (rw e hv) in
-    let hy : y < 2 ^ 63 = omega arith in
-    ap₂ (λ (a b : ℕ). bitOr (a * 2 ^ 1 % 2 ^ 64) b) ex (and-mask p 1) ∙ joined y 63 1 hy (omega arith) (mod-lt p (pow-pos 1))
+    let hz′ : z < 2 ^ count = shr-lt count (64 - count) (rw e hv) in
+    let hz : z < 2 ^ 63 = omega arith in
+    ap₂ (λ (a b : ℕ). bitOr (a * 2 ^ 1 % 2 ^ 64) b) ex ey ∙ joined z 63 1 hz (omega arith) (mod-lt p (pow-pos 1))

@@ -37,7 +37,7 @@ pub fn last_bits(v: u64, count: usize, p: u64) -> u64
     requires { ⌜ count < 64 ⌝ }
     ensures { λ r. ⌜ r ≡ v / 2 ^ (64 - count) * 2 ^ 1 + p % 2 ^ 1 ⌝ }
 {
-    (lowered(v, 64 - count) << 1) | (p & 1)
+    (lowered(v, 64 - count) << 1) | (p % 2)
 }
 
 // t bits of the byte b, past its first off.

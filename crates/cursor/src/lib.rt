@@ -1,6 +1,6 @@
 // A cursor over the bits of a sheet. Each read gives it back moved on; so does each write.
 ghost use mathlib.Core.Path.{_≡_};
-ghost use Prim.Native.Nat.{_+_, _-_, _*_, _%_, _^_, _≤_, _<_};
+ghost use Prim.Native.Nat.{_+_, _*_, _^_, _≤_, _<_};
 ghost use lib.ListN.{length, take, drop};
 ghost use Rattle.format.specs.Bits.{bitsOf, bitsN, valueOf, putAt};
 
@@ -58,38 +58,21 @@ impl Cursor {
         }
     }
 
-    // The next count bits of s at the top of a word, fewer than 64 or at the end of s.
-    fn top_part(self, s: &[u8], count: usize) -> Field
-        requires { ⌜ (count ≤ 64) × (self .at + count ≤ 8 * length (now s)) × (self .at < 2 ^ 32) ⌝ }
-        ensures { λ r. ⌜ (r .value ≡ valueOf (take count (drop (self .at) (bitsOf (now (s .entry))))) * 2 ^ (64 - count) % 2 ^ 64) × (r .next .at ≡ self .at + count) ⌝ }
-    {
-        if count == 0 {
-            return Field {
-                value: 0,
-                next: self,
-            };
-        }
-        let f = self.field(s, count);
-        let value = bits::raised(f.value, 64 - count);
-        let next = f.next;
-        Field { value, next }
-    }
-
-    // The next count bits of s at the top of a word.
-    pub fn top(self, s: &[u8], count: usize) -> Field
-        requires { ⌜ (count ≤ 64) × (self .at + count ≤ 8 * length (now s)) × (self .at < 2 ^ 32) ⌝ }
-        ensures { λ r. ⌜ (r .value ≡ valueOf (take count (drop (self .at) (bitsOf (now (s .entry))))) * 2 ^ (64 - count) % 2 ^ 64) × (r .next .at ≡ self .at + count) ⌝ }
+    // The next 64 bits of s.
+    pub fn field_64(self, s: &[u8]) -> Field
+        requires { ⌜ (self .at + 64 ≤ 8 * length (now s)) × (self .at < 2 ^ 32) ⌝ }
+        ensures { λ r. ⌜ (r .value ≡ valueOf (take 64 (drop (self .at) (bitsOf (now (s .entry)))))) × (r .next .at ≡ self .at + 64) ⌝ }
     {
         let at = self.at;
-        let q = at / 8;
-        if count == 64 && q + 9 <= s.len() {
-            let value = bits::window(s, q, at % 8);
+        let first = at / 8;
+        if first + 9 <= s.len() {
+            let value = bits::window(s, first, at % 8);
             Field {
                 value,
                 next: Cursor { at: at + 64 },
             }
         } else {
-            self.top_part(s, count)
+            self.field_bytes(s, 64)
         }
     }
 

@@ -23,12 +23,12 @@ use Rattle.linear.proofs.Exchange.{at-or-not, repoint-at, repoint-other}
 use Rattle.words.specs.Words.{digit, bitAt}
 use Rattle.words.proofs.Bits.{bit-same, bit-added}
 use Rattle.tableau.specs.Buffer.{basicAt, parityAt, Added, Chain}
-use Rattle.tableau.specs.Layout.{rowAt, lastAt, knownAt, size}
+use Rattle.tableau.specs.Layout.{maxVars, maxRows, rowAt, lastAt, knownAt, size}
 use Rattle.tableau.specs.View.{RowsRead}
 use Rattle.tableau.proofs.Reading.{prov-bit, digit-sum, basic-kept}
 use Rattle.exchange.specs.Steps.{RowCleared, Exchanged}
 
-module _ (n k : ℕ) (ws : List ℕ) (R : ℕ → Row) (β : ℕ → ℕ) (S : ℕ → ℕ → Bool) (p u : ℕ) (lk : k ≤ 256) (lp : p < k) (lu : 0 < u) (hu : u ≤ 512) (rr : RowsRead n k ws R β S) where
+module _ (n k : ℕ) (ws : List ℕ) (R : ℕ → Row) (β : ℕ → ℕ) (S : ℕ → ℕ → Bool) (p u : ℕ) (lk : k ≤ maxRows) (lp : p < k) (lu : 0 < u) (hu : u ≤ maxVars) (rr : RowsRead n k ws R β S) where
   -- whether row p is added to row q
   abbrev adds : ℕ → Bool
   adds q = not (same q p) && R q u
@@ -138,7 +138,7 @@ module _ (n k : ℕ) (ws : List ℕ) (R : ℕ → Row) (β : ℕ → ℕ) (S : �
           parity = λ r l. parities r l (same-dec r p) ∙ c .parity r l ∙ ap₂ (λ (x y : Bool). x ⊕ (adds r && y)) (rr .parity r l) (rr .parity p lp);
           basic = λ r l. basics r l (same-dec r p);
           from = λ r l j lj.
-              prov-bit w (rowAt r) j ∙ bits r l (512 + j) (omega arith)
+              prov-bit w (rowAt r) j ∙ bits r l (maxVars + j) (omega arith)
               ∙ ap₂ (λ (x y : Bool). x ⊕ (adds r && y)) (sym (prov-bit ws (rowAt r) j) ∙ rr .from r l j lj) (sym (prov-bit ws (rowAt p) j) ∙ rr .from p lp j lj);
           clean = λ r l v h. rw (rr .clean r l v h, rr .clean p lp v h, and-false (adds r));
         }

@@ -1,2 +1,4 @@
+pub mod Finds
+pub mod Partners
 pub mod Exchanges
 pub mod Steps

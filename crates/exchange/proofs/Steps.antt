@@ -24,15 +24,16 @@ use Rattle.linear.proofs.Exchange.{at-or-not}
 use Rattle.words.specs.Words.{bitAt}
 use Rattle.words.proofs.Bits.{bit-same}
 use Rattle.tableau.specs.Buffer.{entryAt, Recorded}
-use Rattle.tableau.specs.Layout.{knownAt, truthAt}
+use Rattle.tableau.specs.Layout.{maxVars, knownAt, truthAt, rowAt}
 use Rattle.tableau.specs.View.{LitsRead, MadeAt}
-use Rattle.tableau.proofs.Reading.{rows-stay, entry-stay, lits-stay, bit-of}
-use Rattle.settle.specs.Values.{lacks, Restarted}
-use Rattle.settle.proofs.Restarts.{restart-made}
+use Rattle.tableau.proofs.Reading.{entry-stay, lits-stay, bit-of}
+use Rattle.settle.specs.Values.{lacks, Followed}
+use Rattle.settle.proofs.Follows.{follow-made}
 use Rattle.exchange.specs.Steps.{Partner, Freed, free, stuck, moved, Stepped, held, conflict, refused, taken, Outcome, was-held, was-conflict, was-taken}
 use Rattle.exchange.proofs.Exchanges.{exchange-rows, exchange-rest}
+use Rattle.exchange.proofs.Finds.{found-none}
 
-pub partner-high : (ws : List ℕ) (r p x : ℕ) → Partner ws r p x → x ≤ 512
+pub partner-high : (ws : List ℕ) (r p x : ℕ) → Partner ws r p x → x ≤ maxVars
 partner-high ws r p zero q = omega arith
 partner-high ws r p (suc i) q = q .some i refl .0
 
@@ -66,7 +67,7 @@ module _ (n m : ℕ) (Sheet : ℕ → Row) (kept : ℕ → Bool) (d : ℕ) (x : 
   truth-bit v mv = let a = mv .low in let b = mv .high in let c = s .vars in s .values .trues (v - 1) (omega arith) ∙ ap (s .truth) (bit-of v (mv .low))
 
   -- bit i of row p has no value
-  lacks-is : (p : ℕ) → p < k → (i : ℕ) → i < 512 → lacks ws p i ≡ s .R p (suc i) ⊕ (s .R p (suc i) && s .known (suc i))
+  lacks-is : (p : ℕ) → p < k → (i : ℕ) → i < maxVars → lacks ws p i ≡ s .R p (suc i) ⊕ (s .R p (suc i) && s .known (suc i))
   unfolding lacks
   lacks-is p l i h = ap₂ (λ (a b : Bool). a ⊕ (a && b)) (s .rows .coefs p l i h) (s .values .knows i h)
 
@@ -77,7 +78,10 @@ module _ (n m : ℕ) (Sheet : ℕ → Row) (kept : ℕ → Bool) (d : ℕ) (x : 
 
   module _ (v : ℕ) (mv : Var n v) (un : s .known v ≡ false) where
     freed : (w : List ℕ) (ok : Bool) → length w ≡ length ws → Freed k v ws w ok → (ok ≡ true) × FreeAt w n m Sheet kept d x y k v
-    freed w ok len (free f) = (refl, record { at = s; nonbasic = λ r l e. f .before r l (s .rows .basic r l ∙ e); unknown = un })
+    freed w ok len (free f) = (refl, record { at = s; nonbasic = found-none n k v ws (s .R) (s .β) (s .made .built .tableau) (s .rows .basic) bits f; unknown = un })
+      where
+        bits : (r : ℕ) → r < k → bitAt ws (rowAt r) (v - 1) ≡ s .R r v
+        bits r l = let a = mv .low in let b = mv .high in let c = s .vars in s .rows .coefs r l (v - 1) (omega arith) ∙ ap (s .R r) (bit-of v (mv .low))
     freed w ok len (stuck p l f q) = absurd (none q)
       where
         here : s .β p ≡ v
@@ -90,7 +94,7 @@ module _ (n m : ℕ) (Sheet : ℕ → Row) (kept : ℕ → Bool) (d : ℕ) (x : 
             let hi = o .1 .high in
             let c = s .vars in
             let e = bit-of (o .0) lo in
-            let i : o .0 - 1 < 512 = omega arith in
+            let i : o .0 - 1 < maxVars = omega arith in
             clash (lacks ws p (o .0 - 1))
             (lacks-is p l (o .0 - 1) i ∙ rw (ap (s .R p) e ∙ o .2, ap (s .known) e ∙ o .4))
             (q .none refl (o .0 - 1) i (λ z. o .3 (sym e ∙ ap suc z ∙ bit-of v (mv .low) ∙ sym here)))
@@ -102,7 +106,7 @@ module _ (n m : ℕ) (Sheet : ℕ → Row) (kept : ℕ → Bool) (d : ℕ) (x : 
         go : (i : ℕ) → suc i ≡ u → FreeAt w n m Sheet kept d x y k v
         go i e = record { at = after; nonbasic = rw here at (exchange-frees n m Sheet kept d x y k (s .R) (s .β) (s .S) (s .known) (s .truth) (s .made) p u l mu ru du ku kp); unknown = un }
           where
-            o : (i < 512) × (i ≢ v - 1) × (lacks ws p i ≡ true)
+            o : (i < maxVars) × (i ≢ v - 1) × (lacks ws p i ≡ true)
             o = q .some i (sym e)
 
             parts : (s .R p (suc i) ≡ true) × (s .known (suc i) ≡ false)
@@ -132,7 +136,7 @@ module _ (n m : ℕ) (Sheet : ℕ → Row) (kept : ℕ → Bool) (d : ℕ) (x : 
                     le : (a b : ℕ) → (b < a → ⊥) → a ≤ b
                     le a b g = omega (arith, g)
 
-            upper : u ≤ 512
+            upper : u ≤ maxVars
             upper = let h = o .0 in omega arith
 
             rest : (j : ℕ) → knownAt ≤ j → getD w j 0 ≡ getD ws j 0
@@ -151,6 +155,7 @@ module _ (n m : ℕ) (Sheet : ℕ → Row) (kept : ℕ → Bool) (d : ℕ) (x : 
                   room = let h = s .room in omega arith;
                   rows = exchange-rows n k ws (s .R) (s .β) (s .S) p u (s .few) l pos upper (s .rows) w (s .room) ex;
                   values = record {
+                    within = s .values .within;
                     knows = λ j h. bit-same ws w knownAt knownAt j (rest (knownAt + j / 64) (omega arith)) ∙ s .values .knows j h;
                     trues = λ j h. bit-same ws w truthAt truthAt j (rest (truthAt + j / 64) (omega arith)) ∙ s .values .trues j h;
                   };
@@ -182,13 +187,12 @@ module _ (n m : ℕ) (Sheet : ℕ → Row) (kept : ℕ → Bool) (d : ℕ) (x : 
   unfolding with-bool
   bool-below j l = rw (same-ne j d (λ (z : j ≡ d). absurd (omega arith)))
 
-  take-made : Var n (varOf code) → (r : FreeAt ws n m Sheet kept d x y k (varOf code)) → (v w : List ℕ) → Recorded d code ws v → length w ≡ length ws → Restarted k (suc d) v w
+  take-made : Var n (varOf code) → (r : FreeAt ws n m Sheet kept d x y k (varOf code)) → (v w : List ℕ) → Recorded d code ws v → length w ≡ length ws → Followed k (varOf code - 1) (valOf code) v w
       → MadeAt w n m Sheet kept (suc d) (with-at x d (varOf code)) (with-bool y d (valOf code)) k
-  take-made mv r v w rc len re =
-      restart-made n m Sheet kept (suc d) (with-at x d (varOf code)) (with-bool y d (valOf code)) k (s .R) (s .β) (s .S) v w (s .vars) (s .few) (let h = s .room in let e = rc .len in omega arith) (len ∙ sym (rc .len)) (s .made .built)
+  take-made mv r v w rc len f =
+      follow-made n m Sheet kept d x y k ws s (varOf code) (valOf code) mv (r .nonbasic) (r .unknown) (with-at x d (varOf code)) (with-bool y d (valOf code)) at-below bool-below at-here bool-here
       (taken-more n m Sheet kept d x y k (s .R) (s .β) (s .S) (s .known) (s .truth) (s .made) (varOf code) mv (r .nonbasic) (r .unknown) (with-at x d (varOf code)) at-below at-here)
-      (rows-stay n k ws v (s .R) (s .β) (s .S) (s .few) (λ i h. rc .rest i (omega arith)) (s .rows))
-      lits re
+      v w len (rc .rest) lits f
     where
       s : MadeAt ws n m Sheet kept d x y k
       s = r .at

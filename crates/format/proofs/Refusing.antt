@@ -3,7 +3,7 @@
 --   append-some, append-none  more checks after these: they are reached only where none of these holds
 --   either-.., none-either   one of two conditions holds; neither does
 -- Assumes nothing.
-use mathlib.Core.Path.{_≡_, refl, sym, _∙_}
+use mathlib.Core.Path.{_≡_, refl}
 use mathlib.Core.Bool.{Bool, true, false, _||_, _&&_, true≢false}
 use mathlib.Core.List.{List, [], _∷_, _++_}
 use lib.Dec.{ltb}
@@ -12,7 +12,7 @@ use native.Mathlib.Omega.{arith}
 use borrow.Author.Tests.{ltb-true}
 use Rattle.gf2.specs.Lists.{All}
 use Rattle.gf2.proofs.Search.{and-both}
-use Rattle.format.specs.Refusals.{Check, check, unless, refusal}
+use Rattle.format.specs.Refusals.{Check, unless, refusal}
 
 -- no check has the number 0
 abbrev pub positive : List Check → Bool

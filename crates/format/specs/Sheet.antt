@@ -16,7 +16,7 @@ use mathlib.Core.List.{List, [], _∷_, _++_}
 use mathlib.Core.Bool.{Bool, true, false, not, _&&_}
 use lib.ListN.{length, take, drop, replicate, getD}
 use lib.Dec.{ltb}
-use Rattle.gf2.specs.Rows.{Row, Numbered, Rows}
+use Rattle.gf2.specs.Rows.{Row, Rows}
 use Rattle.format.specs.Bits.{valueOf, bitsOf, bitsN}
 use Rattle.format.specs.Refusals.{Check, check}
 

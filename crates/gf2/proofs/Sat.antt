@@ -5,16 +5,15 @@
 --   total-..          the sum of a list of rows: it holds wherever they do
 -- Assumes nothing.
 use mathlib.Core.Path.{_≡_, refl, sym, ap, ap₂, _∙_}
-use mathlib.Core.Bool.{Bool, true, false, not, _&&_, and-comm, and-assoc}
-use mathlib.Core.List.{List, [], _∷_, _++_, map}
-use mathlib.Core.Logic.{_⊎_, inl, inr, _≢_}
-use Prim.Native.Nat.{ℕ, zero, suc, _+_, _<_, _≤_}
-use native.Mathlib.Nat.{le-of-suc-le-suc, not-suc-le-zero, zero-lt-suc}
-use native.Mathlib.Omega.{arith}
+use mathlib.Core.Bool.{Bool, true, false, _&&_, and-comm, and-assoc}
+use mathlib.Core.List.{List, [], _∷_, _++_}
+use mathlib.Core.Logic.{_⊎_, inl, inr}
+use Prim.Native.Nat.{ℕ, zero, suc, _+_, _<_}
+use native.Mathlib.Nat.{not-suc-le-zero, zero-lt-suc}
 use Rattle.gf2.specs.Field.{_⊕_, xsum, same}
-use Rattle.gf2.specs.Lists.{_∈_, All, Part, stop, take, skip}
-use Rattle.gf2.specs.Rows.{Var, Row, Assignment, rowSum, Holds, Numbered, Rows, total, SameCoefs, SameRow}
-use Rattle.gf2.proofs.Field.{field, and-xor, xor-and, xor-false, xor-assoc, swap4}
+use Rattle.gf2.specs.Lists.{All, Part, stop, take, skip}
+use Rattle.gf2.specs.Rows.{Var, Row, Assignment, rowSum, Holds, Rows, total, SameCoefs}
+use Rattle.gf2.proofs.Field.{and-xor, xor-and, xor-assoc}
 use Rattle.gf2.proofs.Sums.{sum-cong, sum-false, sum-xor, sum-and, sum-one, find}
 
 abbrev pub vsum : ℕ → (ℕ → Bool) → Bool

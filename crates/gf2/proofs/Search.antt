@@ -4,19 +4,18 @@
 --   every-true, every-false    all assignments
 --   from-..                    listings
 -- Assumes nothing.
-use mathlib.Core.Path.{_≡_, refl, sym, ap, ap₂, _∙_}
+use mathlib.Core.Path.{_≡_, refl, sym, ap, _∙_}
 use mathlib.Core.Bool.{Bool, true, false, not, _&&_, cond, Bool·beq, true≢false, false≢true}
 use mathlib.Core.Option.{Option, none, some}
-use mathlib.Core.List.{List, [], _∷_, _++_, map}
-use mathlib.Core.Logic.{_⊎_, inl, inr, _↔_, _≢_}
+use mathlib.Core.List.{List, [], _∷_}
+use mathlib.Core.Logic.{_⊎_, inl, inr, _≢_}
 use lib.Dec.{T, eqb, eqb→eq, eqb-refl}
-use Prim.Native.Nat.{ℕ, zero, suc, _+_, _*_, _<_, _≤_}
-use native.Mathlib.Nat.{not-suc-le-zero}
+use Prim.Native.Nat.{ℕ, zero, suc, _+_, _<_, _≤_}
 use native.Mathlib.Omega.{arith}
-use Rattle.gf2.specs.Field.{_⊕_, same}
-use Rattle.gf2.specs.Lists.{_∈_, All, Part, stop, take, skip, Ascending, Listed}
+use Rattle.gf2.specs.Field.{same}
+use Rattle.gf2.specs.Lists.{_∈_, All, Part, stop, take, skip, Ascending}
 use Rattle.gf2.specs.Rows.{Var, Row, Assignment, SameCoefs}
-use Rattle.gf2.proofs.Sums.{same-refl, same-eq, same-ne, same-dec}
+use Rattle.gf2.proofs.Sums.{same-refl, same-ne, same-dec}
 use Rattle.gf2.proofs.Brute.{put, give, or-else, put-first, find-part, all-pass, agree, every, add-if, listing-from, member}
 
 -- ---- tests

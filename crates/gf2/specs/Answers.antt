@@ -17,10 +17,10 @@ use mathlib.Core.Bool.{Bool, true, false, not}
 use mathlib.Core.List.{List, [], _∷_, _++_, map}
 use lib.ListN.{length, take}
 use lib.Dec.{eqb}
-use Prim.Native.Nat.{ℕ, zero, suc, _+_, _*_, _/_, _%_, _<_, _≤_}
+use Prim.Native.Nat.{ℕ, zero, suc, _+_, _*_, _/_, _%_}
 use Rattle.gf2.specs.Field.{same}
 use Rattle.gf2.specs.Lists.{_∈_, All, Part, Listed}
-use Rattle.gf2.specs.Rows.{Var, Row, Assignment, Holds, Numbered, Rows, total, SameRow, Outcome, passed, failed, Takes, Kept}
+use Rattle.gf2.specs.Rows.{Var, Row, Assignment, Holds, Rows, total, SameRow, failed, Takes, Kept}
 
 -- ---- literals
 

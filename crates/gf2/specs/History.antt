@@ -9,7 +9,7 @@ use mathlib.Core.List.{List, [], _∷_}
 use lib.ListN.{length}
 use Prim.Native.Nat.{ℕ, _≤_}
 use Rattle.gf2.specs.Rows.{Var, Rows}
-use Rattle.gf2.specs.Answers.{Literal, Position, start, withdrawn, moved, OpenAnswer, unsatisfiable, opened, AnswersOpen, AssumeAnswer, held, conflict, implied, AnswersAssume, ExplainAnswer, AnswersExplain, Unexplained}
+use Rattle.gf2.specs.Answers.{Literal, Position, start, withdrawn, moved, OpenAnswer, unsatisfiable, opened, AnswersOpen, AssumeAnswer, AnswersAssume, ExplainAnswer, AnswersExplain, Unexplained}
 
 pub data Event : Type 0 where
   opens : ℕ → Rows → OpenAnswer → Event

@@ -10,10 +10,10 @@
 -- Assumes nothing.
 use mathlib.Core.Path.{_≡_}
 use mathlib.Core.Logic.{_≢_}
-use mathlib.Core.Bool.{Bool, true, false, _&&_}
+use mathlib.Core.Bool.{Bool, false, _&&_}
 use mathlib.Core.List.{List, [], _∷_, _++_, map}
-use Prim.Native.Nat.{ℕ, zero, suc, _<_, _≤_}
-use Rattle.gf2.specs.Field.{_⊕_, xsum, same}
+use Prim.Native.Nat.{ℕ, suc, _<_, _≤_}
+use Rattle.gf2.specs.Field.{_⊕_, xsum}
 use Rattle.gf2.specs.Lists.{Part}
 
 pub record Var (n v : ℕ) : Type 0 where

@@ -7,13 +7,13 @@ use mathlib.Core.Path.{_≡_, refl, sym, ap, _∙_, subst}
 use mathlib.Core.Bool.{Bool, true, false, true≢false}
 use mathlib.Core.Logic.{_⊎_, inl, inr}
 use mathlib.Core.Option.{Option, none, some}
-use mathlib.Core.List.{List, [], _∷_, _++_}
+use mathlib.Core.List.{List}
 use lib.ListN.{length, take}
-use Prim.Native.Nat.{ℕ, zero, suc, _+_, _*_, _≤_}
+use Prim.Native.Nat.{ℕ, zero, suc, _≤_}
 use native.Mathlib.Omega.{arith}
 use Rattle.gf2.specs.Rows.{Var}
-use Rattle.gf2.specs.Answers.{Literal, Position, opened, unsatisfiable, OpenAnswer, AnswersOpen, AssumeAnswer, held, conflict, implied, AnswersAssume, moved, ExplainAnswer, AnswersExplain, Explanation, Unexplained, withdrawn}
-use Rattle.gf2.specs.History.{Event, opens, assumes, backs, explains, refused, after, Right, Runs, at-end}
+use Rattle.gf2.specs.Answers.{Literal, Position, AnswersOpen, AssumeAnswer, held, conflict, implied, AnswersAssume, moved, AnswersExplain}
+use Rattle.gf2.specs.History.{assumes, refused, after, Right, Runs, at-end}
 use Rattle.gf2.proofs.Literals.{of-range}
 use Rattle.format.specs.Refusals.{refusal}
 use Rattle.format.specs.Sheet.{nOf, sheetRows}

@@ -6,25 +6,24 @@
 -- The words of the working buffer, and the answers on a foreign state, are not determined.
 -- Assumes nothing.
 use mathlib.Core.Path.{_≡_, refl, sym, ap, ap₂, _∙_, subst}
-use mathlib.Core.Bool.{Bool, true, false, _||_, true≢false}
+use mathlib.Core.Bool.{Bool, true, false, true≢false}
 use mathlib.Core.Logic.{_⊎_, inl, inr}
-use mathlib.Core.Option.{Option, none, some}
-use mathlib.Core.List.{List, [], _∷_, _++_}
+use mathlib.Core.List.{List, [], _++_}
 use lib.ListN.{length, take, drop, take-append-drop, length-take}
 use lib.Dec.{ltb}
-use Prim.Native.Nat.{ℕ, zero, suc, _+_, _*_, _≤_}
+use Prim.Native.Nat.{ℕ, zero, suc, _+_, _≤_}
 use native.Mathlib.Omega.{arith}
 use borrow.Author.Tests.{ltb-false}
 use Rattle.gf2.specs.Rows.{Assignment}
-use Rattle.gf2.specs.Answers.{Position, start, Solves, opened, unsatisfiable, OpenAnswer, AnswersOpen, AssumeAnswer, held, conflict, implied, AnswersAssume, ExplainAnswer, AnswersExplain, Unexplained}
+use Rattle.gf2.specs.Answers.{Position, start, Solves, opened, unsatisfiable, OpenAnswer, AnswersOpen, AssumeAnswer, held, conflict, implied, ExplainAnswer}
 use Rattle.gf2.proofs.Unique.{open-unique, assume-unique}
 use Rattle.gf2.proofs.Explained.{explain-unique}
-use Rattle.gf2.proofs.Reach.{reached-solution, opened-reached, unsatisfiable-none}
+use Rattle.gf2.proofs.Reach.{reached-solution, unsatisfiable-none}
 use Rattle.format.specs.Refusals.{refusal}
 use Rattle.format.specs.Sheet.{nOf, mOf, sheetRows}
 use Rattle.format.proofs.Refusing.{accepted, none-either}
 use Rattle.judge.specs.declared.Header.{Header}
-use Rattle.judge.specs.Checks.{assumeChecks, backChecks, explainChecks, atDepth}
+use Rattle.judge.specs.Checks.{assumeChecks, explainChecks}
 use Rattle.parity.specs.declared.Opening.{Opening}
 use Rattle.parity.specs.declared.Opening.the-variants.{OpenRefused, Unsatisfiable, Opened}
 use Rattle.parity.specs.declared.Assuming.{Assuming}

@@ -2,13 +2,12 @@
 --   not-open, past-n, past-m, past-kept               the header is closed
 --   by-depth, closed-fit                              the last condition decides; none holds: the header is fit
 -- Assumes nothing.
-use mathlib.Core.Path.{_≡_, refl, sym, ap, _∙_}
+use mathlib.Core.Path.{_≡_, sym, ap}
 use mathlib.Core.Bool.{Bool, true, false, not, _||_}
-use Prim.Native.Nat.{ℕ, _<_, _≤_, min}
-use native.Mathlib.Omega.{arith}
+use Prim.Native.Nat.{_<_, _≤_, min}
 use lib.Dec.{eqb, ltb}
 use borrow.Author.Tests.{lt-ltb, le-ltb, eq-eqb, ne-eqb, ltb-false, eqb-true, not-false}
-use Rattle.format.proofs.Refusing.{either-first, either-second, either-none, none-either}
+use Rattle.format.proofs.Refusing.{either-first, either-second, none-either}
 use Rattle.judge.specs.declared.Header.{Header}
 use Rattle.judge.specs.Checks.{closed, Fit}
 

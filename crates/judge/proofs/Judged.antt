@@ -2,8 +2,7 @@
 --   back-judged, assume-judged, explain-judged   the header is within its bounds, the buffers are long enough, and the number offered is in range
 -- Assumes nothing.
 use mathlib.Core.Path.{_≡_, refl}
-use mathlib.Core.Bool.{_||_}
-use Prim.Native.Nat.{ℕ, _+_, _*_, _<_, _≤_}
+use Prim.Native.Nat.{ℕ, _+_, _*_, _≤_}
 use lib.Dec.{ltb}
 use borrow.Author.Tests.{ltb-false}
 use Rattle.gf2.specs.Rows.{Var}

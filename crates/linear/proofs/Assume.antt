@@ -4,7 +4,7 @@
 -- Assumes nothing.
 use mathlib.Core.Path.{_≡_, refl, sym, _∙_}
 use mathlib.Core.Bool.{Bool, true, false, true≢false}
-use mathlib.Core.Logic.{_⊎_, inl, inr, _≢_}
+use mathlib.Core.Logic.{inl, inr, _≢_}
 use Prim.Native.Nat.{ℕ}
 use Rattle.gf2.specs.Rows.{Row}
 use Rattle.linear.specs.Systems.{Assumptions, Implied, Conflict, And}

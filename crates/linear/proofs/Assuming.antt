@@ -5,22 +5,21 @@
 --   partner                   an unknown basic variable has an unknown partner in its row that is not basic
 --   exchange-made, exchange-frees, taken-more   the exchange, and one literal more
 -- Assumes nothing.
-use mathlib.Core.Path.{_≡_, refl, sym, ap, ap₂, _∙_}
-use mathlib.Core.Bool.{Bool, true, false, not, _&&_, cond, true≢false, false≢true}
+use mathlib.Core.Path.{_≡_, refl, sym, ap, _∙_}
+use mathlib.Core.Bool.{Bool, true, false, not, _&&_}
 use mathlib.Core.Logic.{_⊎_, inl, inr, _≢_, _↔_}
-use Prim.Native.Nat.{ℕ, zero, suc, _+_, _<_, _≤_}
+use Prim.Native.Nat.{ℕ, suc, _<_}
 use native.Mathlib.Omega.{arith}
 use Rattle.gf2.specs.Field.{_⊕_, same}
-use Rattle.gf2.specs.Rows.{Var, Row, Assignment, Holds}
-use Rattle.linear.specs.Systems.{Assumptions, Agrees, Implied, Conflict, And, Literals, Sat, combine, Spanned, Tableau, NonBasic, Settled, pivot, repoint}
-use Rattle.gf2.proofs.Field.{not-ne}
-use Rattle.gf2.proofs.Sums.{same-dec, same-refl, same-ne, bool-dec}
-use Rattle.linear.proofs.Tableaux.{complete, solution, unknown-differs, known-implied, row-open, other-free}
+use Rattle.gf2.specs.Rows.{Var, Row, Assignment}
+use Rattle.linear.specs.Systems.{Assumptions, Agrees, Implied, Conflict, And, Literals, Sat, NonBasic, pivot, repoint}
+use Rattle.gf2.proofs.Sums.{same-dec, bool-dec}
+use Rattle.linear.proofs.Tableaux.{complete, solution, unknown-differs, row-open, other-free}
 use Rattle.linear.proofs.Assume.{opposite, clash}
 use Rattle.linear.proofs.Exchange.{at-or-not, repoint-at, repoint-other, exchange-settled}
 use Rattle.linear.proofs.Pivot.{pivot-tableau}
 use Rattle.linear.proofs.Insert.{pivot-provenance}
-use Rattle.linear.specs.State.{Earlier, Kept, Built, Taken, Made, Started, Finished}
+use Rattle.linear.specs.State.{Earlier, Taken, Made}
 use Rattle.linear.proofs.Spans.{span-trans, pivot-span, implied-sheet, built-sat, xor-some, and-right}
 
 -- where the rows come from after an exchange

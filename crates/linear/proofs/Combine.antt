@@ -1,11 +1,11 @@
 -- SUMS OF SELECTED ROWS: a sum of rows holds wherever the rows do, and its selection is linear.
 -- Assumes nothing.
-use mathlib.Core.Path.{_≡_, refl, sym, ap, ap₂, _∙_}
-use mathlib.Core.Bool.{Bool, true, false, not, _&&_, and-assoc}
-use Prim.Native.Nat.{ℕ, zero, suc, _+_, _<_, _≤_}
-use Rattle.gf2.specs.Field.{_⊕_, xsum, same}
-use Rattle.gf2.specs.Rows.{Var, Row, Assignment, rowSum, Holds, SameCoefs}
-use Rattle.gf2.proofs.Field.{xor-and, xor-eq, eq-xor}
+use mathlib.Core.Path.{_≡_, ap, _∙_}
+use mathlib.Core.Bool.{Bool, _&&_, and-assoc}
+use Prim.Native.Nat.{ℕ, suc}
+use Rattle.gf2.specs.Field.{_⊕_, xsum}
+use Rattle.gf2.specs.Rows.{Row, Assignment, rowSum, Holds}
+use Rattle.gf2.proofs.Field.{xor-and}
 use Rattle.gf2.proofs.Sums.{sum-cong, sum-xor, sum-and, and-sum, sum-swap}
 use Rattle.linear.specs.Systems.{Sat, combine}
 

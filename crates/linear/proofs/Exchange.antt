@@ -3,13 +3,13 @@
 --   repoint-.., pivot-keeps       what changes and what does not
 --   exchange-settled
 -- Assumes nothing.
-use mathlib.Core.Path.{_≡_, refl, sym, ap, ap₂, _∙_, subst, fun-ext}
-use mathlib.Core.Bool.{Bool, true, false, not, _&&_, cond, and-false, and-true, true≢false, false≢true}
-use mathlib.Core.Logic.{_⊎_, inl, inr, _≢_, _↔_}
-use Prim.Native.Nat.{ℕ, zero, suc, _<_}
-use Rattle.gf2.specs.Field.{_⊕_, xsum, same}
-use Rattle.gf2.specs.Rows.{Var, Row, Assignment, Holds}
-use Rattle.linear.specs.Systems.{Assumptions, Sat, Tableau, NonBasic, Settled, pivot, repoint}
+use mathlib.Core.Path.{_≡_, sym, _∙_, subst, fun-ext}
+use mathlib.Core.Bool.{Bool, true, false, not, and-false, true≢false}
+use mathlib.Core.Logic.{_⊎_, inl, inr, _≢_}
+use Prim.Native.Nat.{ℕ, _<_}
+use Rattle.gf2.specs.Field.{same}
+use Rattle.gf2.specs.Rows.{Var, Row, Holds}
+use Rattle.linear.specs.Systems.{Assumptions, Tableau, NonBasic, Settled, pivot, repoint}
 use Rattle.gf2.proofs.Field.{xor-false}
 use Rattle.gf2.proofs.Sums.{same-dec, same-refl, same-ne, bool-dec}
 use Rattle.linear.proofs.Pivot.{pivot-own}

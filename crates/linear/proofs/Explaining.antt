@@ -2,24 +2,24 @@
 --   made-explains    row p, whose basic variable has a value: its provenance and its other variables are what explain answers
 --   made-no-value, made-assumed, made-explained   refusal 10, read off the state: no value; basic in no row; neither
 -- Assumes nothing.
-use mathlib.Core.Path.{_≡_, refl, sym, ap, ap₂, _∙_}
-use mathlib.Core.Bool.{Bool, true, false, not, _&&_, true≢false, false≢true}
-use mathlib.Core.Logic.{_⊎_, inl, inr, _≢_, _↔_}
+use mathlib.Core.Path.{_≡_, refl, sym, ap, _∙_}
+use mathlib.Core.Bool.{Bool, true, false, not, _&&_, true≢false}
+use mathlib.Core.Logic.{inl, inr, _≢_}
 use mathlib.Core.List.{List, [], _∷_, _++_, map}
-use Prim.Native.Nat.{ℕ, zero, suc, _<_, _≤_, zero-le}
+use Prim.Native.Nat.{ℕ, zero, suc, _<_, _≤_}
 use native.Mathlib.Omega.{arith}
-use Rattle.gf2.specs.Field.{_⊕_, same}
-use Rattle.gf2.specs.Lists.{_∈_, All, Part, Listed}
+use Rattle.gf2.specs.Field.{same}
+use Rattle.gf2.specs.Lists.{_∈_, All, Part}
 use Rattle.gf2.specs.Rows.{Var, Row, Rows, total}
 use Rattle.gf2.specs.Rows as by-list
-use Rattle.gf2.specs.Answers.{code, variable, value, negation, Literal, literals, Position, Implied, ExplainAnswer, Explains, AnswersExplain, Unexplained}
+use Rattle.gf2.specs.Answers.{code, variable, value, Literal, literals, Explains, AnswersExplain, Unexplained}
 use Rattle.gf2.proofs.Lists.{all-at}
 use Rattle.gf2.proofs.Literals.{code-variable, code-value}
 use Rattle.gf2.proofs.Decide.{Fits, all-append}
-use Rattle.gf2.proofs.Chosen.{chosen, placed, chosen-part, chosen-total}
+use Rattle.gf2.proofs.Chosen.{chosen, chosen-part, chosen-total}
 use Rattle.gf2.proofs.Scans.{scanned, scanned-same}
 use Rattle.gf2.proofs.RowExplains.{cite, Distinct, row-explains}
-use Rattle.gf2.proofs.Values.{Values, negations-listed}
+use Rattle.gf2.proofs.Values.{negations-listed}
 use Rattle.gf2.proofs.Sure.{explains-implied}
 use Rattle.linear.specs.Systems.{combine, NonBasic, Literals}
 use Rattle.linear.specs.State.{Kept, Made}

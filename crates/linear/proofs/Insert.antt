@@ -4,21 +4,21 @@
 --   combine-..                    sums of sums
 --   pivot-provenance, reduce-provenance   where the rows come from; reason: the other variables of a row that gives a value are assumed
 -- Assumes nothing.
-use mathlib.Core.Path.{_≡_, refl, sym, ap, ap₂, _∙_, subst, fun-ext}
-use mathlib.Core.Bool.{Bool, true, false, not, _&&_, cond, and-false, and-true, and-comm, and-assoc, true≢false, false≢true}
+use mathlib.Core.Path.{_≡_, sym, ap, ap₂, _∙_, fun-ext}
+use mathlib.Core.Bool.{Bool, true, false, not, _&&_, and-false, and-true, and-comm, and-assoc}
 use mathlib.Core.Logic.{_⊎_, inl, inr, _≢_, _↔_, Iff·trans, Iff·symm}
-use Prim.Native.Nat.{ℕ, zero, suc, _<_, _≤_}
+use Prim.Native.Nat.{ℕ, suc, _<_}
 use native.Mathlib.Omega.{arith}
-use Rattle.gf2.specs.Field.{_⊕_, xsum, same}
+use Rattle.gf2.specs.Field.{_⊕_, same}
 use Rattle.gf2.specs.Rows.{Var, Row, Assignment, rowSum, Holds, SameRow, SameCoefs}
-use Rattle.linear.specs.Systems.{Assumptions, Sat, combine, Tableau, NonBasic, Settled, pivot, repoint, reduce, extend, Provenance}
-use Rattle.gf2.proofs.Field.{field, xor-false, xor-self, xor-and, xor-right}
-use Rattle.gf2.proofs.Sums.{sum-cong, sum-one, sum-xor, sum-and, and-sum, sum-swap, sum-false, same-dec, same-comm, same-refl, same-ne, bool-dec}
-use Rattle.gf2.proofs.Sat.{row-zero, row-cong, row-xor}
+use Rattle.linear.specs.Systems.{Assumptions, Sat, combine, Tableau, Settled, pivot, repoint, reduce, extend, Provenance}
+use Rattle.gf2.proofs.Field.{xor-self, xor-and}
+use Rattle.gf2.proofs.Sums.{sum-cong, sum-one, sum-xor, sum-and, and-sum, sum-swap, same-dec, same-comm, same-refl, same-ne}
+use Rattle.gf2.proofs.Sat.{row-zero, row-cong}
 use Rattle.linear.proofs.Combine.{combine-sound, combine-xor}
 use Rattle.linear.proofs.Tableaux.{basic-row, other-free}
 use Rattle.linear.proofs.Exchange.{at-or-not, repoint-at, repoint-other}
-use Rattle.linear.proofs.Pivot.{add-holds, pivot-own, pivot-sat}
+use Rattle.linear.proofs.Pivot.{add-holds, pivot-sat}
 
 pub extend-at : (R : ℕ → Row) (k : ℕ) (c : Row) → extend R k c k ≡ c
 unfolding extend

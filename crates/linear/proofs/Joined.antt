@@ -4,28 +4,28 @@
 --   made-solution                        and some assignment solves it
 --   codes-length, codes-same, codes-fewer   how many; by equal literals; the first d of them
 -- Assumes nothing.
-use mathlib.Core.Path.{_≡_, refl, sym, ap, ap₂, _∙_}
-use mathlib.Core.Bool.{Bool, true, false, not, _&&_}
+use mathlib.Core.Path.{_≡_, refl, sym, ap, _∙_}
+use mathlib.Core.Bool.{Bool}
 use mathlib.Core.Logic.{_⊎_, inl, inr, _≢_, _↔_}
-use mathlib.Core.List.{List, [], _∷_, _++_, append-nil}
+use mathlib.Core.List.{List, [], _∷_, _++_}
 use lib.ListN.{length, take, length-append}
 use lib.Seq.{take-all, take-append-le}
 use Prim.Native.Nat.{ℕ, zero, suc, _+_, _<_, _≤_}
 use native.Mathlib.Nat.{not-suc-le-zero}
 use native.Mathlib.Omega.{arith}
 use Rattle.gf2.specs.Lists.{_∈_, All}
-use Rattle.gf2.specs.Rows.{Var, Row, Assignment, Holds}
-use Rattle.gf2.specs.Answers.{code, variable, value, Literal, Has, Position, Solves, Implied, Conflict}
+use Rattle.gf2.specs.Rows.{Row, Assignment, Holds}
+use Rattle.gf2.specs.Answers.{code, Has, Solves, Implied}
 use Rattle.gf2.proofs.Sums.{same-dec}
-use Rattle.gf2.proofs.Literals.{code-variable, code-value, code-of}
+use Rattle.gf2.proofs.Literals.{code-variable, code-value}
 use Rattle.gf2.proofs.Decide.{all-append}
 use Rattle.gf2.proofs.Reach.{all-left, all-right}
-use Rattle.gf2.proofs.Chosen.{placed, placed-all}
+use Rattle.gf2.proofs.Chosen.{placed-all}
 use Rattle.gf2.proofs.Values.{Values}
 use Rattle.linear.specs.Systems as by-place
 use Rattle.linear.specs.Systems.{Sat, Agrees, Literals}
 use Rattle.linear.specs.State.{Made}
-use Rattle.linear.specs.Positions.{numbered, codesOf, position}
+use Rattle.linear.specs.Positions.{codesOf, position}
 use Rattle.linear.proofs.Assuming.{given, satisfiable}
 
 -- ---- the taken literals

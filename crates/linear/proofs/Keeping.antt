@@ -2,21 +2,21 @@
 --   part-selection   a part of some chosen rows, as a selection of places
 --   keepTo q         the kept rows among the first q; kept-exists, kept-unique
 -- Assumes nothing.
-use mathlib.Core.Path.{_≡_, refl, sym, ap, ap₂, _∙_}
-use mathlib.Core.Bool.{Bool, true, false, not, _&&_, cond, true≢false, false≢true}
+use mathlib.Core.Path.{_≡_, refl, sym, ap, _∙_}
+use mathlib.Core.Bool.{Bool, true, false, _&&_, cond, true≢false, false≢true}
 use mathlib.Core.Logic.{_⊎_, inl, inr, _≢_}
 use Prim.Native.Nat.{ℕ, zero, suc, _+_, _-_, _<_, _≤_}
 use native.Mathlib.Nat.{le-of-suc-le-suc, not-suc-le-zero}
 use native.Mathlib.Omega.{arith}
 use Rattle.gf2.specs.Field.{_⊕_, xsum, same}
 use Rattle.gf2.specs.Lists.{All, Part, stop, take, skip}
-use Rattle.gf2.specs.Rows.{Var, Row, Assignment, Numbered, Rows, rowSum, total, SameCoefs}
+use Rattle.gf2.specs.Rows.{Row, Assignment, Rows, rowSum, total, SameCoefs}
 use Rattle.gf2.proofs.Sums.{sum-cong, sum-false, same-dec, same-refl, same-ne, bool-dec}
 use Rattle.gf2.proofs.Sat.{row-cong}
 use Rattle.gf2.proofs.Fredholm.{split-or-sum}
 use Rattle.gf2.proofs.Chosen.{chosen, placed, with-row}
 use Rattle.linear.specs.Systems.{combine}
-use Rattle.linear.specs.State.{Earlier, Summed, Kept}
+use Rattle.linear.specs.State.{Summed, Kept}
 use Rattle.linear.proofs.Combine.{sum-of-combine}
 
 abbrev Within : (ℕ → Bool) → (ℕ → Bool) → Type 0

@@ -5,25 +5,25 @@
 --   no-failure                                   no row before fails
 --   taken-none                                   nothing is taken at the end
 -- Assumes nothing.
-use mathlib.Core.Path.{_≡_, refl, sym, ap, ap₂, _∙_, fun-ext}
-use mathlib.Core.Bool.{Bool, true, false, not, _&&_, cond, and-true, and-false, and-assoc, true≢false, false≢true}
-use mathlib.Core.Logic.{_⊎_, inl, inr, _≢_, _↔_}
-use Prim.Native.Nat.{ℕ, zero, suc, _+_, _<_, _≤_, zero-le, suc-le-suc}
-use native.Mathlib.Nat.{le-of-suc-le-suc, not-suc-le-zero, zero-lt-suc}
+use mathlib.Core.Path.{_≡_, refl, sym, ap, ap₂, _∙_}
+use mathlib.Core.Bool.{Bool, true, false, not, _&&_, and-false}
+use mathlib.Core.Logic.{_⊎_, inl, inr, _≢_}
+use Prim.Native.Nat.{ℕ, zero, suc, _+_, _<_, _≤_, zero-le}
+use native.Mathlib.Nat.{not-suc-le-zero}
 use native.Mathlib.Omega.{arith}
 use Rattle.gf2.specs.Field.{_⊕_, xsum, same}
-use Rattle.linear.specs.State.{one-if, Earlier, Summed, Kept, tally, Built, Taken, Made, Started, Finished, Fails}
-use Rattle.gf2.specs.Rows.{Var, Row, Assignment, rowSum, Holds, SameRow, SameCoefs}
-use Rattle.linear.specs.Systems.{Assumptions, Agrees, Implied, Conflict, Literals, Sat, combine, Spanned, Tableau, NonBasic, Settled, Provenance, pivot, repoint, reduce, extend}
-use Rattle.gf2.proofs.Field.{field, xor-false, xor-self, xor-eq, eq-xor, xor-cancel, xor-assoc}
-use Rattle.gf2.proofs.Sums.{sum-last, sum-cong, sum-false, same-dec, same-refl, same-ne, same-eq, bool-dec}
-use Rattle.gf2.proofs.Sat.{row-cong, row-and}
-use Rattle.linear.proofs.Combine.{sum-of-combine, combine-xor}
+use Rattle.linear.specs.State.{Earlier, Summed, Kept, tally, Built, Taken, Fails}
+use Rattle.gf2.specs.Rows.{Var, Row, Assignment, Holds, SameRow, SameCoefs}
+use Rattle.linear.specs.Systems.{combine, Spanned, Tableau, Provenance, pivot, repoint, reduce, extend}
+use Rattle.gf2.proofs.Field.{field, xor-false, xor-eq, eq-xor, xor-assoc}
+use Rattle.gf2.proofs.Sums.{sum-last, sum-cong, sum-false, same-dec, same-eq, bool-dec}
+use Rattle.gf2.proofs.Sat.{row-cong}
+use Rattle.linear.proofs.Combine.{combine-xor}
 use Rattle.linear.proofs.Tableaux.{solve, solve-sat}
 use Rattle.linear.proofs.Exchange.{at-or-not}
 use Rattle.linear.proofs.Assume.{clash}
-use Rattle.linear.proofs.Insert.{extend-at, extend-other, combine-basic, combine-one, combine-cong, reduce-basic, reduce-none, reduce-provenance, insert-tableau, pivot-provenance, below}
-use Rattle.linear.proofs.Spans.{span-sum, span-same, span-trans, span-holds, pivot-span, earlier-sum, earlier-xor, xor-some, and-right, kept-independent}
+use Rattle.linear.proofs.Insert.{extend-at, extend-other, combine-basic, combine-one, reduce-basic, reduce-provenance, insert-tableau, pivot-provenance, below}
+use Rattle.linear.proofs.Spans.{span-sum, span-same, span-trans, span-holds, pivot-span, earlier-sum, xor-some, and-right}
 use Rattle.linear.proofs.Assuming.{passed}
 
 -- ---- a sum, and its last part

@@ -4,16 +4,16 @@
 --   tally-le   the kept count is at most the number of rows
 -- Assumes nothing.
 use mathlib.Core.Path.{_≡_, refl, sym, ap, _∙_}
-use mathlib.Core.Bool.{Bool, true, false, cond, true≢false}
+use mathlib.Core.Bool.{Bool, true, false, cond}
 use mathlib.Core.Logic.{_⊎_, inl, inr, _≢_}
 use Prim.Native.Nat.{ℕ, zero, suc, _+_, _-_, _<_, _≤_}
 use native.Mathlib.Nat.{not-suc-le-zero}
 use native.Mathlib.Decide.{decLt}
 use native.Mathlib.Omega.{arith}
 use Rattle.gf2.specs.Field.{same}
-use Rattle.linear.specs.State.{one-if, tally, Built, Taken, Made}
+use Rattle.linear.specs.State.{one-if, tally, Taken}
 use Rattle.gf2.specs.Rows.{Var, Row}
-use Rattle.linear.specs.Systems.{Tableau, NonBasic, Settled, Literals}
+use Rattle.linear.specs.Systems.{Tableau}
 use Rattle.gf2.proofs.Sums.{same-dec, same-refl, same-ne, find}
 use Rattle.linear.proofs.Assume.{clash}
 

@@ -2,17 +2,16 @@
 --   add-holds, pivot-own          one row added to another; the row of the exchange stays
 --   pivot-sat, pivot-tableau
 -- Assumes nothing.
-use mathlib.Core.Path.{_≡_, refl, sym, ap, ap₂, _∙_, subst, fun-ext}
-use mathlib.Core.Bool.{Bool, true, false, not, _&&_, cond, and-false, and-true, and-comm, and-assoc, true≢false, false≢true}
+use mathlib.Core.Path.{_≡_, sym, ap, _∙_, subst, fun-ext}
+use mathlib.Core.Bool.{Bool, true, false, not, _&&_, and-false, and-true}
 use mathlib.Core.Logic.{_⊎_, inl, inr, _≢_, _↔_}
-use Prim.Native.Nat.{ℕ, zero, suc, _+_, _<_, _≤_, zero-le, suc-le-suc}
-use Rattle.gf2.specs.Field.{_⊕_, xsum, same}
+use Prim.Native.Nat.{ℕ, _<_}
+use Rattle.gf2.specs.Field.{_⊕_, same}
 use Rattle.gf2.specs.Rows.{Var, Row, Assignment, rowSum, Holds}
-use Rattle.linear.specs.Systems.{Sat, combine, Tableau, pivot, repoint}
-use Rattle.gf2.proofs.Field.{field, xor-right, and-xor, xor-and, xor-false, xor-eq, eq-xor, xor-cancel, xor-self}
-use Rattle.gf2.proofs.Sums.{sum-cong, sum-one, same-comm, same-dec, same-refl, same-ne}
+use Rattle.linear.specs.Systems.{Sat, Tableau, pivot, repoint}
+use Rattle.gf2.proofs.Field.{xor-right, xor-false, xor-self}
+use Rattle.gf2.proofs.Sums.{same-dec, same-refl, same-ne}
 use Rattle.gf2.proofs.Sat.{row-xor, row-and}
-use Rattle.linear.proofs.Tableaux.{basic-row}
 
 module _ (n : ℕ) where
   -- a row that holds, added or not to another, does not change whether that holds

@@ -2,18 +2,18 @@
 --   settle-made    the last step of open, assume and back
 --   taken-fewer    going back keeps what is asked of the literals
 -- Assumes nothing.
-use mathlib.Core.Path.{_≡_, refl, sym, ap, ap₂, _∙_}
-use mathlib.Core.Bool.{Bool, true, false, not, _&&_, true≢false}
-use mathlib.Core.Logic.{_⊎_, inl, inr, _≢_, _↔_}
-use Prim.Native.Nat.{ℕ, zero, suc, _+_, _<_, _≤_}
+use mathlib.Core.Path.{_≡_, sym, ap, _∙_}
+use mathlib.Core.Bool.{Bool, true}
+use mathlib.Core.Logic.{_≢_}
+use Prim.Native.Nat.{ℕ, _<_, _≤_}
 use native.Mathlib.Omega.{arith}
-use Rattle.gf2.specs.Rows.{Var, Row, Assignment, Holds}
-use Rattle.linear.specs.Systems.{Assumptions, Literals, Sat, Tableau, NonBasic, Settled}
+use Rattle.gf2.specs.Rows.{Var, Row}
+use Rattle.linear.specs.Systems.{Literals, NonBasic}
 use Rattle.linear.proofs.Tableaux.{other-free}
 use Rattle.linear.specs.State.{Built, Taken, Made, Started, Finished}
 
 module _ (n m : ℕ) (Sheet : ℕ → Row) (kept : ℕ → Bool) (k : ℕ) (R : ℕ → Row) (β : ℕ → ℕ) (S : ℕ → ℕ → Bool) (b : Built n m Sheet kept m k R β S) where
-  module _ (d : ℕ) (x : ℕ → ℕ) (y : ℕ → Bool) (t : Taken n d x k β) (known truth known′ truth′ : ℕ → Bool) (s : Started n d x y known truth) (f : Finished n k R β known truth known′ truth′) where
+  module _ (d : ℕ) (x : ℕ → ℕ) (y : ℕ → Bool) (t : Taken n d x k β) (known truth known′ truth′ : ℕ → Bool) (s : Started n d x y k β known truth) (f : Finished n k R β known truth known′ truth′) where
     other : (r v : ℕ) → r < k → Var n v → R r v ≡ true → v ≢ β r → known′ v ≡ known v
     other r v l mv e ne = f .free v mv (other-free n k R β (b .tableau) r v l e ne) .0
 
@@ -25,7 +25,7 @@ module _ (n m : ℕ) (Sheet : ℕ → Row) (kept : ℕ → Bool) (k : ℕ) (R : 
           settled =
               record {
                 assumed = λ v c w. assumed v c w;
-                free = λ v mv nb e. free v mv nb (s .off v mv (sym (f .free v mv nb .0) ∙ e));
+                free = λ v mv nb e. free v mv nb (s .off v mv nb (sym (f .free v mv nb .0) ∙ e));
                 basic-if = λ r l h. f .if r l (λ v mv e ne. sym (other r v l mv e ne) ∙ h v mv e ne);
                 basic-only-if = λ r l h v mv e ne. other r v l mv e ne ∙ f .only-if r l h v mv e ne;
                 basic-value = f .value;

@@ -6,19 +6,19 @@
 --   pivot-span                     the rows before an exchange are sums of those after it
 -- Assumes nothing.
 use mathlib.Core.Path.{_≡_, refl, sym, ap, ap₂, _∙_}
-use mathlib.Core.Bool.{Bool, true, false, not, _&&_, and-false, and-true, and-comm, and-assoc, true≢false, false≢true}
+use mathlib.Core.Bool.{Bool, true, false, not, _&&_, true≢false, false≢true}
 use mathlib.Core.Logic.{_⊎_, inl, inr, _≢_, _↔_}
-use Prim.Native.Nat.{ℕ, zero, suc, _+_, _<_, _≤_, zero-le, suc-le-suc}
+use Prim.Native.Nat.{ℕ, zero, suc, _<_, _≤_, zero-le, suc-le-suc}
 use native.Mathlib.Nat.{le-of-suc-le-suc, not-suc-le-zero, zero-lt-suc}
 use native.Mathlib.Omega.{arith}
 use Rattle.gf2.specs.Field.{_⊕_, xsum, same}
-use Rattle.gf2.specs.Rows.{Var, Row, Assignment, rowSum, Holds, SameRow, SameCoefs}
-use Rattle.linear.specs.Systems.{Assumptions, Agrees, Implied, Conflict, Sat, combine, Spanned, Tableau, NonBasic, Settled, Provenance, pivot, repoint}
-use Rattle.gf2.proofs.Field.{field, xor-false, xor-self, xor-eq, eq-xor, xor-cancel}
+use Rattle.gf2.specs.Rows.{Row, Assignment, Holds, SameRow, SameCoefs}
+use Rattle.linear.specs.Systems.{Assumptions, Implied, Sat, combine, Spanned, pivot}
+use Rattle.gf2.proofs.Field.{field}
 use Rattle.gf2.proofs.Sums.{sum-cong, sum-false, same-dec, same-refl, same-ne, bool-dec, find}
 use Rattle.gf2.proofs.Sat.{row-cong}
 use Rattle.linear.proofs.Combine.{combine-sound, combine-xor}
-use Rattle.linear.proofs.Insert.{combine-combine, combine-cong, combine-one, combine-add, combine-basic}
+use Rattle.linear.proofs.Insert.{combine-combine, combine-cong, combine-one, combine-add}
 use Rattle.linear.proofs.Pivot.{pivot-own}
 use Rattle.linear.specs.State.{Earlier, Summed, Kept, Built}
 

@@ -5,17 +5,16 @@
 --   unknown-differs        where none is given, two solutions differ
 --   solution, complete     consistent and complete
 -- Assumes nothing.
-use mathlib.Core.Path.{_≡_, refl, sym, ap, ap₂, _∙_}
-use mathlib.Core.Bool.{Bool, true, false, not, _&&_, and-false, and-true, and-comm, and-assoc, true≢false, false≢true}
+use mathlib.Core.Path.{_≡_, refl, sym, ap, _∙_}
+use mathlib.Core.Bool.{Bool, true, false, not, _&&_, true≢false}
 use mathlib.Core.Logic.{_⊎_, inl, inr, _≢_, _↔_}
-use Prim.Native.Nat.{ℕ, zero, suc, _+_, _<_, _≤_, zero-le, suc-le-suc}
-use native.Mathlib.Nat.{le-of-suc-le-suc, not-suc-le-zero, zero-lt-suc}
+use Prim.Native.Nat.{ℕ, suc, _<_}
 use Rattle.gf2.specs.Field.{_⊕_, xsum, same}
-use Rattle.gf2.specs.Rows.{Var, Row, Assignment, rowSum, Holds, SameRow, SameCoefs}
-use Rattle.linear.specs.Systems.{Assumptions, Agrees, Implied, Sat, combine, Tableau, NonBasic, Settled}
-use Rattle.gf2.proofs.Sat.{vsum, find-var, vsum-cong, vsum-one, row-cong, value-cong, value-xor, value-one}
-use Rattle.gf2.proofs.Field.{field, xor-not, not-ne, xor-self, xor-true, xor-out, and-left-comm, swap4, and-xor, xor-and, xor-false, xor-eq, eq-xor, xor-comm, xor-cancel}
-use Rattle.gf2.proofs.Sums.{sum-cong, sum-false, sum-xor, sum-and, and-sum, sum-swap, sum-one, same-refl, same-eq, same-ne, same-comm, same-dec, bool-dec, find}
+use Rattle.gf2.specs.Rows.{Var, Row, Assignment, rowSum}
+use Rattle.linear.specs.Systems.{Assumptions, Agrees, Implied, Sat, Tableau, NonBasic, Settled}
+use Rattle.gf2.proofs.Sat.{find-var, vsum-cong, vsum-one, value-xor, value-one}
+use Rattle.gf2.proofs.Field.{xor-not, not-ne, xor-self, xor-true, xor-out, and-left-comm, xor-false, xor-eq, eq-xor}
+use Rattle.gf2.proofs.Sums.{sum-cong, sum-false, sum-and, sum-swap, sum-one, same-refl, same-ne, same-dec, bool-dec, find}
 
 -- D r at the variable β r, for each row r, and 0 at any other variable
 unfoldable pub spread : ℕ → (ℕ → ℕ) → (ℕ → Bool) → Assignment

@@ -5,20 +5,19 @@
 --   takes-fails      row q fails: the definitions list it, after the rows of the sum
 --   kept-length      as many as there are
 -- Assumes nothing.
-use mathlib.Core.Path.{_≡_, refl, sym, ap, ap₂, _∙_}
-use mathlib.Core.Bool.{Bool, true, false, not, _&&_, true≢false, false≢true}
+use mathlib.Core.Path.{_≡_, refl, sym, ap, _∙_}
+use mathlib.Core.Bool.{Bool, true, false, _&&_, true≢false, false≢true}
 use mathlib.Core.Logic.{_⊎_, inl, inr, _≢_}
-use mathlib.Core.List.{List, [], _∷_, _++_, map, append-nil}
+use mathlib.Core.List.{[], _∷_, _++_, map, append-nil}
 use lib.ListN.{length, length-append}
 use lib.Dec.{ltb, lt→ltb, ltb→lt}
 use Prim.Native.Nat.{ℕ, zero, suc, _+_, _-_, _<_, _≤_}
 use native.Mathlib.Nat.{not-suc-le-zero}
 use native.Mathlib.Omega.{arith}
-use Rattle.gf2.specs.Field.{_⊕_, xsum, same}
-use Rattle.gf2.specs.Lists.{Part}
-use Rattle.gf2.specs.Rows.{Var, Row, Numbered, Rows, total, SumOf, Outcome, passed, failed, Takes, end, keep, leave, fail}
+use Rattle.gf2.specs.Field.{_⊕_, xsum}
+use Rattle.gf2.specs.Rows.{Row, Numbered, Rows, total, SumOf, passed, failed, Takes, end, keep, leave, fail}
 use Rattle.gf2.proofs.Sums.{sum-cong, sum-false, bool-dec}
-use Rattle.gf2.proofs.Search.{and-both, both-and, test-true}
+use Rattle.gf2.proofs.Search.{and-both, test-true}
 use Rattle.gf2.proofs.Chosen.{with-row, chosen, placed, chosen-part, chosen-total}
 use Rattle.gf2.proofs.Scans.{chosen-end}
 use Rattle.gf2.proofs.Values.{takes-append}

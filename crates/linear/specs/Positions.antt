@@ -5,7 +5,7 @@
 --   codesOf d x y         the d literals `variable x j has the value y j`, in order
 --   position              the position that they make
 -- Assumes nothing.
-use mathlib.Core.Bool.{Bool, true, false}
+use mathlib.Core.Bool.{Bool, false}
 use mathlib.Core.List.{List, [], _∷_, _++_}
 use Prim.Native.Nat.{ℕ, zero, suc}
 use Rattle.gf2.specs.Rows.{Row, Rows}

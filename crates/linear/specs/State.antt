@@ -5,12 +5,12 @@
 --   Built                   a tableau that says what the first q rows of the sheet say, with the provenance of its rows
 --   Taken                   the taken literals: of distinct variables, none basic
 --   Made                    the state between calls
---   Started, Finished       the values of the taken literals alone; what settling then does
+--   Started, Finished       values before settling: of the variables that are not basic, the taken ones have theirs; what settling then does
 -- Assumes nothing.
 use mathlib.Core.Path.{_≡_}
 use mathlib.Core.Logic.{_≢_}
 use mathlib.Core.Bool.{Bool, true, false, cond}
-use Prim.Native.Nat.{ℕ, zero, suc, _+_, _<_, _≤_}
+use Prim.Native.Nat.{ℕ, zero, suc, _+_, _<_}
 use Rattle.gf2.specs.Field.{same}
 use Rattle.gf2.specs.Rows.{Var, Row, Holds, SameCoefs}
 use Rattle.linear.specs.Systems.{combine, Spanned, Tableau, NonBasic, Settled, Provenance, Literals}
@@ -58,9 +58,9 @@ pub record Made (n m : ℕ) (Sheet : ℕ → Row) (kept : ℕ → Bool) (d : ℕ
   pub taken : Taken n d x k β
   pub settled : Settled n k R β (Literals d x y) known truth
 
-pub record Started (n d : ℕ) (x : ℕ → ℕ) (y known truth : ℕ → Bool) : Type 0 where
+pub record Started (n d : ℕ) (x : ℕ → ℕ) (y : ℕ → Bool) (k : ℕ) (β : ℕ → ℕ) (known truth : ℕ → Bool) : Type 0 where
   pub on : (j : ℕ) → j < d → (known (x j) ≡ true) × (truth (x j) ≡ y j)
-  pub off : (v : ℕ) → Var n v → known v ≡ true → (j : ℕ) × (j < d) × (x j ≡ v)
+  pub off : (v : ℕ) → Var n v → NonBasic k β v → known v ≡ true → (j : ℕ) × (j < d) × (x j ≡ v)
 
 -- settling changes basic variables only, and gives one a value exactly if all the others of its row had one
 pub record Finished (n k : ℕ) (R : ℕ → Row) (β : ℕ → ℕ) (known truth known′ truth′ : ℕ → Bool) : Type 0 where

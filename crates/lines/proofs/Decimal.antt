@@ -2,9 +2,9 @@
 -- Assumes nothing.
 use mathlib.Core.Path.{_≡_, refl, ap, _∙_}
 use mathlib.Core.Bool.{Bool, true, false, cond}
-use mathlib.Core.List.{List, [], _∷_, _++_}
+use mathlib.Core.List.{[], _∷_, _++_}
 use Prim.Native.Nat.{ℕ, zero, suc, _+_, _-_, _/_, _%_, _^_, _<_, _≤_}
-use native.Mathlib.Nat.{pow-suc, div-lt-iff-lt-mul, le-div-iff-mul-le, pow-le-pow-right, mod-lt, mod-eq-of-lt}
+use native.Mathlib.Nat.{pow-suc, div-lt-iff-lt-mul, le-div-iff-mul-le, pow-le-pow-right, mod-eq-of-lt}
 use native.Mathlib.Omega.{arith}
 use native.Mathlib.Numerals.{unary-clauses}
 use lib.Dec.{ltb, lit<}

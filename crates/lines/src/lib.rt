@@ -2,7 +2,6 @@
 // the caller lends. Every function answers where the text that it wrote ends; past that the buffer keeps what it had.
 //
 // A number takes at most 21 bytes with its space, and the rest of a line less than 64: 16,384 bytes hold any line.
-ghost use mathlib.Core.Path.{_≡_};
 ghost use mathlib.Core.List.{[], _∷_, map};
 ghost use Prim.Native.Nat.{_+_, _*_, _≤_};
 ghost use lib.ListN.{length, take};

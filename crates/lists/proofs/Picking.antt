@@ -9,9 +9,9 @@
 --   other-v, other-bit          the test for the other variables of a row
 --   Room v u c                    what is left of a clause's buffer when the variables up to u have been looked at
 -- Assumes nothing.
-use mathlib.Core.Path.{_≡_, refl, sym, ap, ap₂, _∙_}
+use mathlib.Core.Path.{_≡_, refl, sym, ap, _∙_}
 use mathlib.Core.List.{List, [], _∷_, _++_, append-nil}
-use mathlib.Core.Bool.{Bool, true, false, _&&_, not, and-false, and-true, true≢false, false≢true}
+use mathlib.Core.Bool.{Bool, true, false, _&&_, not, and-false, and-true, true≢false}
 use mathlib.Core.Logic.{_≢_, _⊎_, inl, inr}
 use Prim.Native.Nat.{ℕ, zero, suc, _+_, _-_, _/_, _%_, _<_, _≤_}
 use native.Mathlib.Nat.{not-suc-le-zero, add-zero, zero-add}
@@ -21,7 +21,6 @@ use native.Mathlib.Omega.{arith}
 use lib.ListN.{length, getD, set, take, replicate, length-set, length-append, length-take, List·getD-append}
 use lib.Seq.{getD-set-same, getD-set-other, getD-append-add, getD-take, ext-getD}
 use Rattle.gf2.specs.Field.{same}
-use Rattle.gf2.specs.Rows.{Var}
 use Rattle.gf2.specs.Answers.{code}
 use Rattle.gf2.proofs.Sums.{same-refl, same-ne}
 use Rattle.gf2.proofs.Scans.{scanned-same, one-if, scanned}

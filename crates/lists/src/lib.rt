@@ -5,20 +5,20 @@ use tableau::ROW;
 use tableau::TRUTH;
 use words::bit;
 ghost use mathlib.Core.Path.{_≡_};
-ghost use mathlib.Core.Bool.{Bool, true, not};
+ghost use mathlib.Core.Bool.{true, not};
 ghost use mathlib.Core.List.{_∷_};
-ghost use Prim.Native.Nat.{ℕ, _+_, _-_, _<_, _≤_};
+ghost use Prim.Native.Nat.{_+_, _-_, _<_, _≤_};
 ghost use lib.ListN.{length};
 ghost use Rattle.gf2.specs.Answers.{code};
 ghost use Rattle.gf2.proofs.Scans.{scanned};
 ghost use Rattle.words.specs.Words.{bitAt};
-ghost use Rattle.tableau.specs.Layout.{fromAt, knownAt, truthAt, size};
+ghost use Rattle.tableau.specs.Layout.{maxVars, maxRows, fromAt, knownAt, truthAt, size};
 ghost use Rattle.tableau.specs.View.{vals};
 ghost use Rattle.lists.specs.Listing.{numbers, isNew, isOther, Noted, Listed, Skipped, Passed, fresh};
 
 // The code of the literal that gives v the value b.
 pub fn literal(v: usize, b: bool) -> u64
-    requires { ⌜ v ≤ 512 ⌝ }
+    requires { ⌜ v ≤ maxVars ⌝ }
     ensures { λ x. ⌜ x ≡ code v b ⌝ }
 {
     if b {
@@ -42,7 +42,7 @@ pub fn note(out: &mut [u64], c: usize, pick: bool, item: u64) -> usize
 
 // The next place from u on, below n, where the word x of place u has a bit; where it has none, a place up to which it has none.
 pub fn skip(x: u64, u: usize, n: usize) -> usize
-    requires { ⌜ (u < n) × (n ≤ 512) ⌝ }
+    requires { ⌜ (u < n) × (n ≤ maxVars) ⌝ }
     ensures { λ p. ⌜ Skipped x u n p ⌝ }
 {
     let s = u % 64;
@@ -54,7 +54,7 @@ pub fn skip(x: u64, u: usize, n: usize) -> usize
 
 // The next place from u on that may have a bit in the eight words from place a.
 pub fn next_bit(ws: &[u64], a: usize, u: usize, n: usize) -> usize
-    requires { ⌜ (a + 8 ≤ length (now ws)) × (u < n) × (n ≤ 512) ⌝ }
+    requires { ⌜ (a + 8 ≤ length (now ws)) × (u < n) × (n ≤ maxVars) ⌝ }
     ensures { λ p. ⌜ Passed (bitAt (now (ws .entry)) a) u n p ⌝ }
 {
     skip(ws[a + u / 64], u, n)
@@ -62,7 +62,7 @@ pub fn next_bit(ws: &[u64], a: usize, u: usize, n: usize) -> usize
 
 // The next place from u on that may have a value now and none before.
 pub fn next_new(work: &[u64], old: &[u64], u: usize, n: usize) -> usize
-    requires { ⌜ (size ≤ length (now work)) × (8 ≤ length (now old)) × (u < n) × (n ≤ 512) ⌝ }
+    requires { ⌜ (size ≤ length (now work)) × (8 ≤ length (now old)) × (u < n) × (n ≤ maxVars) ⌝ }
     ensures { λ p. ⌜ Passed (fresh (now (work .entry)) (now (old .entry))) u n p ⌝ }
 {
     let j = u / 64;
@@ -72,7 +72,7 @@ pub fn next_new(work: &[u64], old: &[u64], u: usize, n: usize) -> usize
 
 // Whether u has a value, had none before, and is not v.
 pub fn is_new(work: &[u64], old: &[u64], v: usize, u: usize) -> bool
-    requires { ⌜ (size ≤ length (now work)) × (8 ≤ length (now old)) × (0 < u) × (u ≤ 512) ⌝ }
+    requires { ⌜ (size ≤ length (now work)) × (8 ≤ length (now old)) × (0 < u) × (u ≤ maxVars) ⌝ }
     ensures { λ x. ⌜ x ≡ isNew (now (work .entry)) (now (old .entry)) v u ⌝ }
 {
     if u == v {
@@ -86,7 +86,7 @@ pub fn is_new(work: &[u64], old: &[u64], v: usize, u: usize) -> bool
 
 // Whether row r has u, and u is not v.
 pub fn is_other(work: &[u64], r: usize, v: usize, u: usize) -> bool
-    requires { ⌜ (size ≤ length (now work)) × (r < 256) × (0 < u) × (u ≤ 512) ⌝ }
+    requires { ⌜ (size ≤ length (now work)) × (r < maxRows) × (0 < u) × (u ≤ maxVars) ⌝ }
     ensures { λ x. ⌜ x ≡ isOther (now (work .entry)) r v u ⌝ }
 {
     if u == v {
@@ -97,7 +97,7 @@ pub fn is_other(work: &[u64], r: usize, v: usize, u: usize) -> bool
 
 // The literals of the variables that are new, given which had a value before.
 pub fn list_new(work: &[u64], old: &[u64], v: usize, n: usize, out: &mut [u64]) -> usize
-    requires { ⌜ (size ≤ length (now work)) × (8 ≤ length (now old)) × (n ≤ 512) × (n ≤ length (now out)) ⌝ }
+    requires { ⌜ (size ≤ length (now work)) × (8 ≤ length (now old)) × (n ≤ maxVars) × (n ≤ length (now out)) ⌝ }
     ensures { λ x. ⌜ Listed n 0 (scanned n (isNew (now (work .entry)) (now (old .entry)) v) (vals (now (work .entry)) truthAt)) (now (out .entry)) (now (out .exit)) x ⌝ }
 {
     let mut c = 0;
@@ -114,7 +114,7 @@ pub fn list_new(work: &[u64], old: &[u64], v: usize, n: usize, out: &mut [u64]) 
 
 // The literals of all variables that have a value.
 pub fn list_known(work: &[u64], n: usize, out: &mut [u64]) -> usize
-    requires { ⌜ (size ≤ length (now work)) × (n ≤ 512) × (n ≤ length (now out)) ⌝ }
+    requires { ⌜ (size ≤ length (now work)) × (n ≤ maxVars) × (n ≤ length (now out)) ⌝ }
     ensures { λ x. ⌜ Listed n 0 (scanned n (vals (now (work .entry)) knownAt) (vals (now (work .entry)) truthAt)) (now (out .entry)) (now (out .exit)) x ⌝ }
 {
     let old = [0u64; 8];
@@ -123,7 +123,7 @@ pub fn list_known(work: &[u64], n: usize, out: &mut [u64]) -> usize
 
 // From place 1 on, the negations of the values of the variables of row r but v.
 pub fn list_others(work: &[u64], r: usize, v: usize, n: usize, out: &mut [u64]) -> usize
-    requires { ⌜ (size ≤ length (now work)) × (r < 256) × (n ≤ 512) × (n ≤ length (now out)) × (0 < v) × (v ≤ n) ⌝ }
+    requires { ⌜ (size ≤ length (now work)) × (r < maxRows) × (n ≤ maxVars) × (n ≤ length (now out)) × (0 < v) × (v ≤ n) ⌝ }
     ensures { λ x. ⌜ Listed n 1 (scanned n (isOther (now (work .entry)) r v) (λ u. not (vals (now (work .entry)) truthAt u))) (now (out .entry)) (now (out .exit)) x ⌝ }
 {
     let mut c = 1;
@@ -140,7 +140,7 @@ pub fn list_others(work: &[u64], r: usize, v: usize, n: usize, out: &mut [u64]) 
 
 // The clause of v, whose value row r gives: v's literal, then the negations.
 pub fn list_clause(work: &[u64], r: usize, v: usize, n: usize, out: &mut [u64]) -> usize
-    requires { ⌜ (size ≤ length (now work)) × (r < 256) × (n ≤ 512) × (n ≤ length (now out)) × (0 < v) × (v ≤ n) ⌝ }
+    requires { ⌜ (size ≤ length (now work)) × (r < maxRows) × (n ≤ maxVars) × (n ≤ length (now out)) × (0 < v) × (v ≤ n) ⌝ }
     ensures { λ x. ⌜ Listed n 0 (code v (bitAt (now (work .entry)) truthAt (v - 1)) ∷ scanned n (isOther (now (work .entry)) r v) (λ u. not (vals (now (work .entry)) truthAt u))) (now (out .entry)) (now (out .exit)) x ⌝ }
 {
     out[0] = literal(v, bit(work, TRUTH, v));
@@ -149,7 +149,7 @@ pub fn list_clause(work: &[u64], r: usize, v: usize, n: usize, out: &mut [u64]) 
 
 // The numbers of the rows of the sheet that row r is the sum of.
 pub fn list_rows(work: &[u64], r: usize, m: usize, out: &mut [u64]) -> usize
-    requires { ⌜ (size ≤ length (now work)) × (r < 256) × (m ≤ 256) × (m ≤ length (now out)) ⌝ }
+    requires { ⌜ (size ≤ length (now work)) × (r < maxRows) × (m ≤ maxRows) × (m ≤ length (now out)) ⌝ }
     ensures { λ x. ⌜ Listed m 0 (numbers m (bitAt (now (work .entry)) (fromAt r))) (now (out .entry)) (now (out .exit)) x ⌝ }
 {
     let mut c = 0;

@@ -1,3 +1,4 @@
+pub mod Basics
 pub mod Loads
 pub mod Lifts
 pub mod Opens

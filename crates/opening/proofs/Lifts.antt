@@ -26,7 +26,7 @@ use Rattle.linear.proofs.Opening.{reduce-more, left-over, others, source, skip-
 use Rattle.words.specs.Words.{digit, bitAt}
 use Rattle.words.proofs.Bits.{bit-same, bit-added, own-at}
 use Rattle.tableau.specs.Buffer.{basicAt, parityAt, Added, Chain}
-use Rattle.tableau.specs.Layout.{rowAt, fromAt, lastAt, size}
+use Rattle.tableau.specs.Layout.{maxVars, maxRows, rowAt, fromAt, lastAt, size}
 use Rattle.tableau.specs.View.{RowsRead, BuiltAt}
 use Rattle.tableau.proofs.Reading.{bit-of, rows-below, prov-bit, digit-sum, basic-kept}
 use Rattle.exchange.proofs.Exchanges.{exchange-rows}
@@ -35,10 +35,10 @@ use Rattle.words.specs.Store.{StoreRead}
 
 -- row k of the buffer, which has no basic variable yet
 pub record Slot (n k : ℕ) (w : List ℕ) (a : Row) (s : ℕ → Bool) : Type 0 where
-  pub coefs : (i : ℕ) → i < 512 → bitAt w (rowAt k) i ≡ a (suc i)
+  pub coefs : (i : ℕ) → i < maxVars → bitAt w (rowAt k) i ≡ a (suc i)
   pub parity : parityAt w k ≡ a 0
   pub basic : basicAt w k ≡ 0
-  pub from : (j : ℕ) → j < 256 → bitAt w (fromAt k) j ≡ s j
+  pub from : (j : ℕ) → j < maxRows → bitAt w (fromAt k) j ≡ s j
   pub clean : (v : ℕ) → n < v → a v ≡ false
 
 slot-same : (n k : ℕ) (w : List ℕ) (a b : Row) (s t : ℕ → Bool) → ((v : ℕ) → a v ≡ b v) → ((j : ℕ) → s j ≡ t j) → Slot n k w a s → Slot n k w b t
@@ -49,10 +49,10 @@ slot-same n k w a b s t e f h =
 slot-rows : (n k : ℕ) (w : List ℕ) (R : ℕ → Row) (β : ℕ → ℕ) (S : ℕ → ℕ → Bool) (a : Row) (s : ℕ → Bool) → RowsRead n k w R β S → Slot n k w a s → RowsRead n (suc k) w (extend R k a) (repoint β k 0) (extend S k s)
 slot-rows n k w R β S a s rr sl =
     record {
-      coefs = at-or-not (suc k) k (λ r. (i : ℕ) → i < 512 → bitAt w (rowAt r) i ≡ extend R k a r (suc i)) (rw (extend-at R k a) (sl .coefs)) (λ r l d. rw (extend-other R k a r d) (rr .coefs r (below k r l d)));
+      coefs = at-or-not (suc k) k (λ r. (i : ℕ) → i < maxVars → bitAt w (rowAt r) i ≡ extend R k a r (suc i)) (rw (extend-at R k a) (sl .coefs)) (λ r l d. rw (extend-other R k a r d) (rr .coefs r (below k r l d)));
       parity = at-or-not (suc k) k (λ r. parityAt w r ≡ extend R k a r 0) (rw (extend-at R k a) (sl .parity)) (λ r l d. rw (extend-other R k a r d) (rr .parity r (below k r l d)));
       basic = at-or-not (suc k) k (λ r. basicAt w r ≡ repoint β k 0 r) (rw (repoint-at β k 0) (sl .basic)) (λ r l d. rw (repoint-other β k 0 r d) (rr .basic r (below k r l d)));
-      from = at-or-not (suc k) k (λ r. (j : ℕ) → j < 256 → bitAt w (fromAt r) j ≡ extend S k s r j) (rw (extend-at S k s) (sl .from)) (λ r l d. rw (extend-other S k s r d) (rr .from r (below k r l d)));
+      from = at-or-not (suc k) k (λ r. (j : ℕ) → j < maxRows → bitAt w (fromAt r) j ≡ extend S k s r j) (rw (extend-at S k s) (sl .from)) (λ r l d. rw (extend-other S k s r d) (rr .from r (below k r l d)));
       clean = at-or-not (suc k) k (λ r. (v : ℕ) → n < v → extend R k a r v ≡ false) (rw (extend-at R k a) (sl .clean)) (λ r l d. rw (extend-other R k a r d) (rr .clean r (below k r l d)));
     }
 
@@ -87,7 +87,7 @@ module _ (n k : ℕ) (R : ℕ → Row) (β : ℕ → ℕ) (S : ℕ → ℕ → B
       ∙ ap (λ (z : Bool). same q j ⊕ xsum r (λ p. c (β p) && S p j) ⊕ (z && S r j)) (sym (reduce-same r l))
 
   -- ---- one turn
-  module _ (ln : n ≤ 512) (lk : k < 256) (r : ℕ) (lr : r < k) (w w′ : List ℕ) (rr : RowsRead n k w R β S) (sl : Slot n k w (reduce r R β c) (picked r)) where
+  module _ (ln : n ≤ maxVars) (lk : k < maxRows) (r : ℕ) (lr : r < k) (w w′ : List ℕ) (rr : RowsRead n k w R β S) (sl : Slot n k w (reduce r R β c) (picked r)) where
     test : bitAt w (rowAt k) (basicAt w r - 1) ≡ reduce r R β c (β r)
     test =
         let lo = t .var r lr .low in
@@ -104,7 +104,7 @@ module _ (n k : ℕ) (R : ℕ → Row) (β : ℕ → ℕ) (S : ℕ → ℕ → B
           coefs = λ i l. bits i (omega arith) ∙ ap₂ _⊕_ (sl .coefs i l) (rr .coefs r lr i l);
           parity = ap (λ (x : ℕ). digit (x % 2)) (a .last) ∙ digit-sum (getD w (lastAt k) 0) (getD w (lastAt r) 0) ∙ ap₂ _⊕_ (sl .parity) (rr .parity r lr);
           basic = basic-kept (getD w′ (lastAt k) 0) (getD w (lastAt k) 0) (getD w (lastAt r) 0) (a .last) ∙ sl .basic;
-          from = λ j l. prov-bit w′ (rowAt k) j ∙ bits (512 + j) (omega arith) ∙ ap₂ _⊕_ (sym (prov-bit w (rowAt k) j) ∙ sl .from j l) (sym (prov-bit w (rowAt r) j) ∙ rr .from r lr j l);
+          from = λ j l. prov-bit w′ (rowAt k) j ∙ bits (maxVars + j) (omega arith) ∙ ap₂ _⊕_ (sym (prov-bit w (rowAt k) j) ∙ sl .from j l) (sym (prov-bit w (rowAt r) j) ∙ rr .from r lr j l);
           clean = λ v l. rw (sl .clean v l, rr .clean r lr v l);
         })
       where
@@ -112,21 +112,17 @@ module _ (n k : ℕ) (R : ℕ → Row) (β : ℕ → ℕ) (S : ℕ → ℕ → B
         bits i l = bit-added w w′ (rowAt k) (rowAt k) (rowAt r) i (a .bits (i / 64) (omega arith))
 
     turn : Reduced k r w w′ → RowsRead n k w′ R β S × Slot n k w′ (reduce (suc r) R β c) (picked (suc r))
-    turn (inl h) =
-        let lo = t .var r lr .low in
-        let hi = t .var r lr .high in
-        let e = rr .basic r lr in
-        rw (h .0) (rr, turn-kept (sym test ∙ h .1 (omega arith) (omega arith)))
-    turn (inr h) = (rows-below n k w w′ R β S (λ i l. h .3 .rest i (inl l)) rr, turn-added (sym test ∙ h .2) (h .3))
+    turn (inl h) = rw (h .0) (rr, turn-kept (sym test ∙ h .1))
+    turn (inr h) = (rows-below n k w w′ R β S (λ i l. h .1 .rest i (inl l)) rr, turn-added (sym test ∙ h .0) (h .1))
 
-  reduced : n ≤ 512 → k < 256 → (ws : List ℕ) → RowsRead n k ws R β S → Slot n k ws c (same q) → (r : ℕ) → r ≤ k → (w : List ℕ) → Chain (Reduced k) r ws w → RowsRead n k w R β S × Slot n k w (reduce r R β c) (picked r)
+  reduced : n ≤ maxVars → k < maxRows → (ws : List ℕ) → RowsRead n k ws R β S → Slot n k ws c (same q) → (r : ℕ) → r ≤ k → (w : List ℕ) → Chain (Reduced k) r ws w → RowsRead n k w R β S × Slot n k w (reduce r R β c) (picked r)
   reduced ln lk ws rr sl zero l w e = rw e (rr, slot-same n k ws c (reduce 0 R β c) (same q) (picked 0) reduce-none picked-none sl)
   reduced ln lk ws rr sl (suc r) l w h =
       let s = reduced ln lk ws rr sl r (omega arith) (h .0) (h .2) in turn ln lk r l (h .0) w (s .0) (s .1) (h .3)
 
 -- ---- a row of the sheet
-module _ (n m : ℕ) (Sheet : ℕ → Row) (kept : ℕ → Bool) (kp : Kept n m Sheet kept) (store : List ℕ) (st : StoreRead n m store Sheet) (ln : n ≤ 512) (lm : m ≤ 256)
-    (q k : ℕ) (lq : q < m) (lk : k < 256) (ws : List ℕ) (big : size ≤ length ws) (b : BuiltAt ws n m Sheet kept q k) where
+module _ (n m : ℕ) (Sheet : ℕ → Row) (kept : ℕ → Bool) (kp : Kept n m Sheet kept) (store : List ℕ) (st : StoreRead n m store Sheet) (ln : n ≤ maxVars) (lm : m ≤ maxRows)
+    (q k : ℕ) (lq : q < m) (lk : k < maxRows) (ws : List ℕ) (big : size ≤ length ws) (b : BuiltAt ws n m Sheet kept q k) where
   loaded : (a : List ℕ) → Loaded q k store ws a → RowsRead n k a (b .R) (b .β) (b .S) × Slot n k a (Sheet q) (same q)
   loaded a h = (
     rows-below n k ws a (b .R) (b .β) (b .S) (λ i l. h .rest i (inl l)) (b .rows),
@@ -156,7 +152,7 @@ module _ (n m : ℕ) (Sheet : ℕ → Row) (kept : ℕ → Bool) (kp : Kept n m 
 
   none-coefs : (w : List ℕ) → Slot n k w left src → LowestAt w k 0 → SameCoefs n left (λ v. false)
   none-coefs w sl s zero mv = absurd (not-suc-le-zero (mv .low))
-  none-coefs w sl s (suc i) mv = let h = mv .high in let l : i < 512 = omega arith in sym (sl .coefs i l) ∙ s .none refl i l
+  none-coefs w sl s (suc i) mv = let h = mv .high in let l : i < maxVars = omega arith in sym (sl .coefs i l) ∙ s .none refl i l
 
   pub open-step : (w : List ℕ) (ans : ℕ) → RowDone q k store ws w ans → RowOutcome n m Sheet kept q k w ans
   open-step w ans (nothing a w₁ h c s e) =
@@ -182,10 +178,10 @@ module _ (n m : ℕ) (Sheet : ℕ → Row) (kept : ℕ → Bool) (kp : Kept n m 
             built = insert-built n m Sheet kept kp q lq k (b .R) (b .β) (b .S) (b .built) u mu eu;
           })
         where
-          upper : u ≤ 512
+          upper : u ≤ maxVars
           upper = s .upto
 
-          small : i < 512
+          small : i < maxVars
           small = let h = s .upto in omega arith
 
           eu : left u ≡ true

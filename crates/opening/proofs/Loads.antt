@@ -14,11 +14,11 @@ use lib.ListN.{length, getD, set}
 use lib.Seq.{getD-set-same, getD-set-other}
 use Rattle.words.specs.Words.{digit, bitAt, ownWord, Lowest}
 use Rattle.tableau.specs.Buffer.{Run, Reads, Chain}
-use Rattle.tableau.specs.Layout.{rowSize, rowAt, fromAt, lastAt, size}
+use Rattle.tableau.specs.Layout.{maxVars, maxRows, rowSize, rowAt, fromAt, lastAt, size}
 use Rattle.tableau.proofs.Runs.{reads-bit}
 use Rattle.opening.specs.Opened.{Loaded, Reduced, LowestAt, RowDone, nothing, contradiction}
 
-pub load-done : (q k : ℕ) (store row ws a b : List ℕ) (x : ℕ) → size ≤ length ws → k < 256 → Reads 8 store (9 * q) row → Run (rowAt k) 8 (λ j. getD row (0 + j) 0) ws a → Run (fromAt k) 4 (λ j. ownWord q j) a b → x ≡ getD store (9 * q + 8) 0 % 2
+pub load-done : (q k : ℕ) (store row ws a b : List ℕ) (x : ℕ) → size ≤ length ws → k < maxRows → Reads 8 store (9 * q) row → Run (rowAt k) 8 (λ j. getD row (0 + j) 0) ws a → Run (fromAt k) 4 (λ j. ownWord q j) a b → x ≡ getD store (9 * q + 8) 0 % 2
     → Loaded q k store ws (set b (lastAt k) x)
 load-done q k store row ws a b x big lk rd r s e =
     record {
@@ -46,7 +46,7 @@ lowest-read ws row k x rd h =
       under = λ i l. at i (omega arith) ∙ h .under i l;
     }
   where
-    at : (i : ℕ) → i < 512 → bitAt ws (rowAt k) i ≡ bitAt row 0 i
+    at : (i : ℕ) → i < maxVars → bitAt ws (rowAt k) i ≡ bitAt row 0 i
     at i l = sym (reads-bit 8 (rowAt k) ws row rd i l)
 
 pub none-left : (q k : ℕ) (store ws a w : List ℕ) (u : ℕ) → Loaded q k store ws a → Chain (Reduced k) k a w → LowestAt w k u → u ≡ 0 → RowDone q k store ws w (getD w (lastAt k) 0 % 2)

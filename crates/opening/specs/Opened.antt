@@ -1,5 +1,6 @@
 -- WHAT OPENING DOES TO THE BUFFER (document 01, "Opening"): on every buffer, and what it means for rows that read as a sheet.
 --   Loaded q k store ws w        row q of the row store stands as row k, which has no basic variable yet and comes from row q alone
+--   Basics k ws                  each row below k has a basic variable, one of 1 .. maxVars
 --   Reduced k r ws w             row r has been added into row k, if that has its basic variable
 --   LowestAt ws k x              x is the lowest variable of row k, or 0 where it has none
 --   RowDone q k store ws w x     what row q does, with k rows kept so far: x is 0 nothing, 1 a contradiction, 2 one more row
@@ -17,7 +18,7 @@ use Rattle.gf2.specs.Field.{_⊕_, same}
 use Rattle.gf2.specs.Rows.{Row}
 use Rattle.linear.specs.State.{Fails}
 use Rattle.words.specs.Words.{bitAt, ownWord}
-use Rattle.tableau.specs.Layout.{rowSize, rowAt, fromAt, lastAt}
+use Rattle.tableau.specs.Layout.{coefWords, fromWords, maxVars, maxRows, rowSize, rowAt, fromAt, lastAt}
 use Rattle.tableau.specs.Buffer.{basicAt, parityAt, Added, Chain}
 use Rattle.tableau.specs.View.{BuiltAt}
 use Rattle.settle.specs.Values.{Restarted}
@@ -26,19 +27,22 @@ use Rattle.opening.specs.declared.Opening.{Opening}
 use Rattle.opening.specs.declared.Opening.the-variants.{Open, Unsat}
 
 pub record Loaded (q k : ℕ) (store ws w : List ℕ) : Type 0 where
-  pub coefs : (j : ℕ) → j < 8 → getD w (rowAt k + j) 0 ≡ getD store (9 * q + j) 0
-  pub from : (j : ℕ) → j < 4 → getD w (fromAt k + j) 0 ≡ ownWord q j
+  pub coefs : (j : ℕ) → j < coefWords → getD w (rowAt k + j) 0 ≡ getD store (9 * q + j) 0
+  pub from : (j : ℕ) → j < fromWords → getD w (fromAt k + j) 0 ≡ ownWord q j
   pub last : getD w (lastAt k) 0 ≡ getD store (9 * q + 8) 0 % 2
   pub rest : (i : ℕ) → (i < rowAt k) ⊎ (rowAt k + rowSize ≤ i) → getD w i 0 ≡ getD ws i 0
 
+abbrev pub Basics : ℕ → List ℕ → Type 0
+Basics k ws = (r : ℕ) → r < k → (0 < basicAt ws r) × (basicAt ws r ≤ maxVars)
+
 abbrev pub Reduced : ℕ → ℕ → List ℕ → List ℕ → Type 0
 Reduced k r ws w =
-    ((w ≡ ws) × (0 < basicAt ws r → basicAt ws r ≤ 512 → bitAt ws (rowAt k) (basicAt ws r - 1) ≡ false))
-    ⊎ ((0 < basicAt ws r) × (basicAt ws r ≤ 512) × (bitAt ws (rowAt k) (basicAt ws r - 1) ≡ true) × Added r k ws w)
+    ((w ≡ ws) × (bitAt ws (rowAt k) (basicAt ws r - 1) ≡ false))
+    ⊎ ((bitAt ws (rowAt k) (basicAt ws r - 1) ≡ true) × Added r k ws w)
 
 pub record LowestAt (ws : List ℕ) (k x : ℕ) : Type 0 where
-  pub upto : x ≤ 512
-  pub none : x ≡ 0 → (i : ℕ) → i < 512 → bitAt ws (rowAt k) i ≡ false
+  pub upto : x ≤ maxVars
+  pub none : x ≡ 0 → (i : ℕ) → i < maxVars → bitAt ws (rowAt k) i ≡ false
   pub some : (i : ℕ) → x ≡ suc i → bitAt ws (rowAt k) i ≡ true
   pub under : (i : ℕ) → suc i < x → bitAt ws (rowAt k) i ≡ false
 
@@ -49,7 +53,7 @@ pub data RowDone (q k : ℕ) (store ws : List ℕ) : List ℕ → ℕ → Type 0
 
 pub data RowOutcome (n m : ℕ) (Sheet : ℕ → Row) (kept : ℕ → Bool) (q k : ℕ) (w : List ℕ) : ℕ → Type 0 where
   skipped : BuiltAt w n m Sheet kept (suc q) k → RowOutcome n m Sheet kept q k w 0
-  failed : (s : ℕ → Bool) → Fails n m Sheet kept q s → ((j : ℕ) → j < 256 → bitAt w (fromAt k) j ≡ same q j ⊕ s j) → RowOutcome n m Sheet kept q k w 1
+  failed : (s : ℕ → Bool) → Fails n m Sheet kept q s → ((j : ℕ) → j < maxRows → bitAt w (fromAt k) j ≡ same q j ⊕ s j) → RowOutcome n m Sheet kept q k w 1
   inserted : BuiltAt w n m Sheet kept (suc q) (suc k) → RowOutcome n m Sheet kept q k w 2
 
 pub data Opens (store ws : List ℕ) : ℕ → ℕ → List ℕ → Type 0 where

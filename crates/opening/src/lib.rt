@@ -11,17 +11,17 @@ use tableau::words_at;
 use words::bit;
 use words::lowest;
 use words::own;
-ghost use Prim.Native.Nat.{ℕ, _+_, _*_, _<_, _≤_};
+ghost use Prim.Native.Nat.{_+_, _*_, _<_, _≤_};
 ghost use lib.ListN.{length};
 ghost use Rattle.words.specs.Words.{ownWord};
-ghost use Rattle.tableau.specs.Layout.{fromAt, size};
-ghost use Rattle.tableau.specs.Buffer.{Run, Chain};
-ghost use Rattle.opening.specs.Opened.{Loaded, Reduced, RowDone, Answered};
+ghost use Rattle.tableau.specs.Layout.{fromWords, maxVars, maxRows, fromAt, size};
+ghost use Rattle.tableau.specs.Buffer.{basicAt, Run, Chain};
+ghost use Rattle.opening.specs.Opened.{Basics, Loaded, Reduced, RowDone, Answered};
 
 // The provenance of row k becomes row q of the sheet alone.
 pub fn mark_row(work: &mut [u64], q: usize, k: usize)
-    requires { ⌜ (size ≤ length (now work)) × (q < 256) × (k < 256) ⌝ }
-    ensures { λ _. ⌜ Run (fromAt k) 4 (λ j. ownWord q j) (now (work .entry)) (now (work .exit)) ⌝ }
+    requires { ⌜ (size ≤ length (now work)) × (q < maxRows) × (k < maxRows) ⌝ }
+    ensures { λ _. ⌜ Run (fromAt k) fromWords (λ j. ownWord q j) (now (work .entry)) (now (work .exit)) ⌝ }
 {
     let a = ROW * k + FROM;
     let mut j = 0;
@@ -33,7 +33,7 @@ pub fn mark_row(work: &mut [u64], q: usize, k: usize)
 
 // Row q of the row store stands as row k.
 pub fn load_row(work: &mut [u64], rows: &[u64], q: usize, k: usize)
-    requires { ⌜ (size ≤ length (now work)) × (9 * q + 9 ≤ length (now rows)) × (q < 256) × (k < 256) ⌝ }
+    requires { ⌜ (size ≤ length (now work)) × (9 * q + 9 ≤ length (now rows)) × (q < maxRows) × (k < maxRows) ⌝ }
     ensures { λ _. ⌜ Loaded q k (now (rows .entry)) (now (work .entry)) (now (work .exit)) ⌝ }
 {
     store(work, k, words_at(rows, 9 * q));
@@ -44,24 +44,23 @@ pub fn load_row(work: &mut [u64], rows: &[u64], q: usize, k: usize)
 
 // Row r is added into row k, if that has its basic variable.
 pub fn reduce_by(work: &mut [u64], k: usize, r: usize)
-    requires { ⌜ (size ≤ length (now work)) × (k < 256) × (r < k) ⌝ }
+    requires { ⌜ (size ≤ length (now work)) × (k < maxRows) × (r < k) × (0 < basicAt (now work) r) × (basicAt (now work) r ≤ maxVars) ⌝ }
     ensures { λ _. ⌜ Reduced k r (now (work .entry)) (now (work .exit)) ⌝ }
 {
     let x = work[ROW * r + LAST];
-    if x >= 2 {
-        if x < 1026 {
-            // x / 2, such that x / 2 - 1 is one shift
-            let v = (x - 2) / 2 + 1;
-            if bit(work, ROW * k, v as usize) {
-                add_row(work, r, k);
-            }
-        }
+    // x / 2, such that x / 2 - 1 is one shift
+    let v = (x - 2) / 2 + 1;
+    // row k as a part, such that no turn adds its place
+    let a = ROW * k;
+    let e = a + FROM;
+    if bit(&work[a..e], 0, v as usize) {
+        add_row(work, r, k);
     }
 }
 
 // Row k is reduced by the rows before it.
 pub fn reduce(work: &mut [u64], k: usize)
-    requires { ⌜ (size ≤ length (now work)) × (k < 256) ⌝ }
+    requires { ⌜ (size ≤ length (now work)) × (k < maxRows) × Basics k (now work) ⌝ }
     ensures { λ _. ⌜ Chain (Reduced k) k (now (work .entry)) (now (work .exit)) ⌝ }
 {
     let mut r = 0;
@@ -73,7 +72,7 @@ pub fn reduce(work: &mut [u64], k: usize)
 
 // Row q of the row store goes in, with k rows kept so far: 0 it says nothing new, 1 it contradicts, 2 it is row k.
 pub fn open_row(work: &mut [u64], rows: &[u64], q: usize, k: usize) -> u64
-    requires { ⌜ (size ≤ length (now work)) × (9 * q + 9 ≤ length (now rows)) × (q < 256) × (k < 256) ⌝ }
+    requires { ⌜ (size ≤ length (now work)) × (9 * q + 9 ≤ length (now rows)) × (q < maxRows) × (k < maxRows) × Basics k (now work) ⌝ }
     ensures { λ x. ⌜ RowDone q k (now (rows .entry)) (now (work .entry)) (now (work .exit)) x ⌝ }
 {
     load_row(work, rows, q, k);
@@ -94,7 +93,7 @@ pub enum Opening {
 
 // All m rows of the row store go in, until one contradicts; then the variables that the rows alone decide get their values.
 pub fn open_rows(work: &mut [u64], rows: &[u64], m: usize) -> Opening
-    requires { ⌜ (size ≤ length (now work)) × (9 * m ≤ length (now rows)) × (m ≤ 256) ⌝ }
+    requires { ⌜ (size ≤ length (now work)) × (9 * m ≤ length (now rows)) × (m ≤ maxRows) ⌝ }
     ensures { λ x. ⌜ Answered m (now (rows .entry)) (now (work .entry)) x (now (work .exit)) ⌝ }
 {
     let mut q = 0;

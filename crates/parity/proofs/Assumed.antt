@@ -3,18 +3,16 @@
 --   promise-refused    a check holds
 --   promise-held, promise-conflict, promise-stuck, promise-taken   none does: the four answers of an offer
 -- Assumes nothing.
-use mathlib.Core.Path.{_≡_, refl, sym, ap, ap₂, _∙_, subst}
+use mathlib.Core.Path.{_≡_, refl, sym, ap, _∙_, subst}
 use mathlib.Core.Bool.{Bool, true, false, not, _&&_, and-assoc}
 use mathlib.Core.Logic.{_⊎_, inl, inr, _≢_}
-use mathlib.Core.Option.{some}
 use mathlib.Core.List.{List, _++_}
-use lib.ListN.{length, take, drop, getD, take-append-drop}
-use lib.Seq.{getD-take}
+use lib.ListN.{length, take, drop, take-append-drop}
 use Prim.Native.Nat.{ℕ, zero, suc, _+_, _*_, _-_, _/_, _<_, _≤_}
 use native.Mathlib.Omega.{arith}
 use Rattle.gf2.specs.Field.{same}
 use Rattle.gf2.specs.Rows.{Var}
-use Rattle.gf2.specs.Answers.{variable, value, Position, assumed, held, conflict, implied, AnswersAssume}
+use Rattle.gf2.specs.Answers.{variable, value, Position, held, conflict, implied, AnswersAssume}
 use Rattle.gf2.proofs.Sums.{same-comm}
 use Rattle.gf2.proofs.Literals.{of-range}
 use Rattle.gf2.proofs.Scans.{scanned}
@@ -28,16 +26,14 @@ use Rattle.tableau.specs.Layout.{knownAt, truthAt}
 use Rattle.tableau.specs.Buffer.{Reads}
 use Rattle.tableau.specs.View.{MadeAt, vals}
 use Rattle.tableau.proofs.Runs.{reads-bit}
-use Rattle.tableau.proofs.Reading.{bit-of}
 use Rattle.exchange.specs.Steps as steps
 use Rattle.exchange.specs.Steps.{Stepped, Outcome, was-held, was-conflict, was-taken}
 use Rattle.exchange.proofs.Steps.{step-made}
 use Rattle.lists.specs.Listing.{isNew, Listed}
-use Rattle.parity.specs.declared.Assuming.{Assuming}
 use Rattle.parity.specs.declared.Assuming.the-variants.{AssumeRefused, Held, Conflict, Taken}
 use Rattle.parity.specs.Promises.{Stands, AssumePromise}
 use Rattle.parity.specs.Offers.{Offered, below, full-held, full-conflict, full-refused}
-use Rattle.parity.proofs.Part.{front-long, front-bit, replaced-front, replaced-worked}
+use Rattle.parity.proofs.Part.{front-bit, replaced-front, replaced-worked}
 use Rattle.lists.proofs.Picking.{listed-take}
 use Rattle.parity.proofs.Listing.{listed-used}
 use Rattle.parity.proofs.Offering.{offered-held, offered-conflict, offered-full, taken-answer, taken-stands}

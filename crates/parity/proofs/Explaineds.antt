@@ -5,15 +5,14 @@
 -- Assumes nothing.
 use mathlib.Core.Path.{_≡_, refl, sym, ap, ap₂, _∙_, subst}
 use mathlib.Core.Bool.{Bool, true, false, not, _&&_}
-use mathlib.Core.Logic.{_⊎_, inl, inr, _≢_}
-use mathlib.Core.List.{List, [], _∷_, map}
-use lib.ListN.{length, take, getD}
+use mathlib.Core.List.{List, _∷_, map}
+use lib.ListN.{length, take}
 use lib.Seq.{getD-take}
-use Prim.Native.Nat.{ℕ, zero, suc, _+_, _*_, _-_, _/_, _<_, _≤_}
+use Prim.Native.Nat.{ℕ, zero, suc, _-_, _/_, _<_, _≤_}
 use native.Mathlib.Omega.{arith}
 use Rattle.gf2.specs.Field.{same}
 use Rattle.gf2.specs.Rows.{Var}
-use Rattle.gf2.specs.Answers.{code, Position, ExplainAnswer, AnswersExplain, Explanation, Unexplained}
+use Rattle.gf2.specs.Answers.{code, Position, ExplainAnswer, AnswersExplain, Unexplained}
 use Rattle.gf2.proofs.Sums.{same-comm}
 use Rattle.gf2.proofs.Scans.{scanned, scanned-same}
 use Rattle.gf2.proofs.Explained.{explanation}
@@ -26,12 +25,12 @@ use Rattle.judge.proofs.Judged.{explain-judged}
 use Rattle.words.specs.Words.{bitAt}
 use Rattle.tableau.specs.Layout.{rowAt, fromAt, lastAt, knownAt, truthAt}
 use Rattle.tableau.specs.Buffer.{basicAt}
-use Rattle.tableau.specs.View.{MadeAt, vals}
+use Rattle.tableau.specs.View.{vals}
 use Rattle.tableau.proofs.Reading.{bit-of}
 use Rattle.exchange.specs.Steps.{Found}
+use Rattle.exchange.proofs.Finds.{found-none}
 use Rattle.exchange.proofs.Steps.{known-bit, truth-bit}
 use Rattle.lists.specs.Listing.{numbers, isOther, Listed}
-use Rattle.parity.specs.declared.Explaining.{Explaining}
 use Rattle.parity.specs.declared.Explaining.the-variants.{ExplainRefused, Explained}
 use Rattle.parity.specs.Promises.{Stands, ExplainPromise}
 use Rattle.parity.proofs.Part.{front-bit}
@@ -87,6 +86,14 @@ module _ (h : Header) (work clause rows : List ℕ) (v : ℕ) where
       basic-is : (r : ℕ) → r < h .kept → basicAt work r ≡ s .made .β r
       basic-is r l = let a = s .made .few in sym (front-basic r (omega arith)) ∙ s .made .rows .basic r l
 
+      coef-is : (r : ℕ) → r < h .kept → bitAt work (rowAt r) (v - 1) ≡ s .made .R r v
+      coef-is r l =
+          let a = mine .low in
+          let b = mine .high in
+          let c = s .fit .vars in
+          let d = s .made .few in
+          sym (front-bit work room (rowAt r) (omega arith) (v - 1) (omega arith)) ∙ s .made .rows .coefs r l (v - 1) (omega arith) ∙ ap (s .made .R r) (bit-of v (mine .low))
+
     promise-10 : ((p : Position) → Stands h work p → Unexplained p v) → ExplainPromise h work clause rows v (ExplainRefused 10) clause rows
     promise-10 f = record { refused = λ c e. absurd (not-refused c e); leaves = λ z. (refl, refl, refl); right = λ z p s. f p s }
 
@@ -97,7 +104,7 @@ module _ (h : Header) (work clause rows : List ℕ) (v : ℕ) where
     pub promise-assumed : bitAt work knownAt (v - 1) ≡ true → Found work (h .kept) v (h .kept) → ExplainPromise h work clause rows v (ExplainRefused 10) clause rows
     promise-assumed e f = promise-10 (λ p s. subst (λ (q : Position). Unexplained q v) (sym (s .here))
         (made-assumed (h .n) (h .m) (s .Sheet) (s .kept) (h .depth) (s .var) (s .val) (h .kept) (s .made .R) (s .made .β) (s .made .S) (s .made .known) (s .made .truth) (s .made .made) (s .is-kept) v mine
-        (λ r l g. f .before r l (basic-is p s r l ∙ g)) (sym (known-is p s) ∙ e)))
+        (found-none (h .n) (h .kept) v work (s .made .R) (s .made .β) (s .made .made .built .tableau) (basic-is p s) (coef-is p s) f) (sym (known-is p s) ∙ e)))
 
     pub promise-explained : (r : ℕ) → r < h .kept → Found work (h .kept) v r → bitAt work knownAt (v - 1) ≡ true → (clause′ rows′ : List ℕ) (x y : ℕ)
         → Listed (h .n) 0 (code v (bitAt work truthAt (v - 1)) ∷ scanned (h .n) (isOther work r v) (λ u. not (vals work truthAt u))) clause clause′ x

@@ -1,17 +1,16 @@
 -- BACK on a state that the module made: the state is one made for the first literals.
 -- Assumes nothing.
-use mathlib.Core.Path.{_≡_, refl, sym, ap, _∙_, subst}
+use mathlib.Core.Path.{_≡_, ap, _∙_}
 use mathlib.Core.List.{List, _++_}
 use lib.ListN.{length, take, drop}
 use Prim.Native.Nat.{ℕ, _≤_}
 use native.Mathlib.Omega.{arith}
-use Rattle.gf2.specs.Answers.{Position, withdrawn, Reached}
+use Rattle.gf2.specs.Answers.{Position, withdrawn}
 use Rattle.gf2.proofs.Reach.{withdrawn-reached}
-use Rattle.linear.specs.Positions.{numbered, codesOf, position}
+use Rattle.linear.specs.Positions.{numbered}
 use Rattle.linear.proofs.Joined.{codes-fewer}
 use Rattle.judge.specs.declared.Header.{Header}
 use Rattle.judge.specs.Checks.{atDepth}
-use Rattle.tableau.specs.View.{MadeAt}
 use Rattle.settle.specs.Values.{Restarted}
 use Rattle.settle.proofs.Restarts.{back-step}
 use Rattle.parity.specs.Promises.{Stands}

@@ -3,17 +3,13 @@
 --   short-work, short-literals, short-rows, all-passed   what the reader accepts
 -- Assumes nothing.
 use mathlib.Core.Path.{_≡_, refl, sym, ap, _∙_}
-use mathlib.Core.Bool.{Bool, true, false, _||_}
-use mathlib.Core.List.{List, [], _∷_, _++_}
-use lib.ListN.{length}
-use lib.Dec.{ltb}
-use Prim.Native.Nat.{ℕ, zero, suc, _<_, _≤_}
-use borrow.Author.Tests.{lt-ltb, le-ltb, ltb-false}
-use Rattle.format.specs.Refusals.{Check, check, refusal}
+use mathlib.Core.List.{List}
+use Prim.Native.Nat.{ℕ, _<_, _≤_}
+use borrow.Author.Tests.{lt-ltb, le-ltb}
+use Rattle.format.specs.Refusals.{refusal}
 use Rattle.format.specs.Sheet.{nOf, mOf, reader}
 use Rattle.format.proofs.Refusing.{append-some, append-none}
 use Rattle.format.proofs.Accepted.{Accepted}
-use Rattle.sheet.specs.declared.Reading.{Reading}
 use Rattle.sheet.specs.declared.Reading.the-variants.{Refused, Read}
 use Rattle.sheet.specs.Reader.{number, said, reading}
 use Rattle.sheet.proofs.Reader.{number-reading, read-accepted, read-refused}

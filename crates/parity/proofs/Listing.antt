@@ -1,11 +1,11 @@
 -- ANSWER BUFFERS: past a list written from the front, a buffer keeps what it had.
 -- Assumes nothing.
-use mathlib.Core.Path.{_≡_, sym, ap, _∙_}
+use mathlib.Core.Path.{sym, ap, _∙_}
 use mathlib.Core.Logic.{inr}
 use mathlib.Core.List.{List}
-use lib.ListN.{length, drop, length-drop}
+use lib.ListN.{drop, length-drop}
 use lib.Seq.{ext-getD, getD-drop}
-use Prim.Native.Nat.{ℕ, _+_, _-_, _≤_}
+use Prim.Native.Nat.{ℕ, _+_, _-_}
 use native.Mathlib.Omega.{arith}
 use Rattle.lists.specs.Listing.{Listed}
 use Rattle.parity.specs.Promises.{Used}

@@ -10,9 +10,8 @@ use Prim.Native.Nat.{ℕ, zero, suc, _<_, _≤_}
 use native.Mathlib.Omega.{arith}
 use Rattle.gf2.specs.Field.{_⊕_, same}
 use Rattle.gf2.specs.Rows.{Row, Numbered, Rows}
-use Rattle.gf2.proofs.Field.{xor-false}
 use Rattle.gf2.proofs.Sums.{same-refl, same-ne, same-dec, bool-dec}
-use Rattle.gf2.proofs.Chosen.{with-row, chosen, placed}
+use Rattle.gf2.proofs.Chosen.{with-row, chosen}
 use Rattle.gf2.proofs.Scans.{one-if, chosen-end}
 use Rattle.linear.specs.State.{Earlier}
 use Rattle.linear.specs.Positions.{numbered, byNumber}

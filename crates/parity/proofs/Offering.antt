@@ -5,18 +5,17 @@
 --   taken-answer, taken-stands       a literal is taken: the answer, and the state afterwards
 -- Assumes nothing.
 use mathlib.Core.Path.{_≡_, refl, sym, ap, ap₂, _∙_, subst}
-use mathlib.Core.Bool.{Bool, true, false, not, _&&_, true≢false, false≢true}
+use mathlib.Core.Bool.{Bool, true, false, not, _&&_}
 use mathlib.Core.Logic.{_⊎_, inl, inr, _≢_}
 use mathlib.Core.List.{List, [], _∷_, _++_}
 use lib.ListN.{length, take, drop}
-use lib.Dec.{eqb}
-use Prim.Native.Nat.{ℕ, suc, _+_, _*_, _-_, _/_, _%_, _<_, _≤_}
+use Prim.Native.Nat.{ℕ, suc, _+_, _*_, _-_, _<_, _≤_}
 use native.Mathlib.Omega.{arith}
 use native.Mathlib.Numerals.{add-one}
 use Rattle.gf2.specs.Field.{same}
 use Rattle.gf2.specs.Rows.{Var, Assignment}
-use Rattle.gf2.specs.Answers.{code, variable, value, Literal, Position, assumed, Solves, Implied, held, conflict, implied, AnswersAssume, Reached}
-use Rattle.gf2.proofs.Sums.{same-refl, same-ne, same-dec, bool-dec}
+use Rattle.gf2.specs.Answers.{code, variable, value, Literal, Position, assumed, Solves, held, conflict, implied, AnswersAssume}
+use Rattle.gf2.proofs.Sums.{same-refl, same-ne}
 use Rattle.gf2.proofs.Literals.{code-of, of-range}
 use Rattle.gf2.proofs.Scans.{scanned, scanned-same}
 use Rattle.gf2.proofs.Values.{Values, free, answers-held, answers-conflict, new-listed}
@@ -25,14 +24,14 @@ use Rattle.linear.specs.State.{with-at, with-bool}
 use Rattle.linear.specs.Systems.{NonBasic}
 use Rattle.linear.specs.Positions.{numbered, codesOf, position}
 use Rattle.linear.proofs.Joined.{codes-same, made-values, made-solution}
-use Rattle.linear.proofs.Assuming.{partner, taken-more}
+use Rattle.linear.proofs.Assuming.{taken-more}
 use Rattle.linear.proofs.Pigeons.{room}
 use Rattle.linear.proofs.Tableaux.{basic-dec}
 use Rattle.judge.specs.declared.Header.{Header}
 use Rattle.judge.specs.Checks.{atDepth}
 use Rattle.words.specs.Words.{bitAt}
 use Rattle.tableau.specs.Layout.{knownAt, truthAt}
-use Rattle.tableau.specs.View.{MadeAt, vals}
+use Rattle.tableau.specs.View.{MadeAt}
 use Rattle.exchange.proofs.Steps.{known-bit, truth-bit}
 use Rattle.parity.specs.Promises.{Stands}
 use Rattle.parity.proofs.Part.{replaced-front}

@@ -4,19 +4,17 @@
 --   promise-rows             none does: the rows went in, or one contradicted
 --   fill-fine, promise-filled   the same, with n and m as they were read
 -- Assumes nothing.
-use mathlib.Core.Path.{_≡_, refl, sym, ap, ap₂, _∙_, subst}
-use mathlib.Core.Bool.{Bool, true, false, _||_, true≢false}
-use mathlib.Core.Logic.{_⊎_, inl, inr}
-use mathlib.Core.Option.{some}
+use mathlib.Core.Path.{_≡_, refl, sym, ap, _∙_, subst}
+use mathlib.Core.Bool.{Bool, true, false, true≢false}
 use mathlib.Core.List.{List, [], _∷_, _++_, map}
 use lib.ListN.{length, take, drop}
 use lib.Dec.{ltb}
 use Prim.Native.Nat.{ℕ, zero, suc, _+_, _*_, _<_, _≤_}
 use native.Mathlib.Omega.{arith}
 use borrow.Author.Tests.{ltb-false}
-use Rattle.gf2.specs.Rows.{Var, Row, Rows, Assignment, Takes, failed}
+use Rattle.gf2.specs.Rows.{Var, Row, Rows, Assignment}
 use Rattle.gf2.specs.Rows as by-list
-use Rattle.gf2.specs.Answers.{Position, start, Solves, opened, unsatisfiable, AnswersOpen}
+use Rattle.gf2.specs.Answers.{start, Solves, opened, unsatisfiable, AnswersOpen}
 use Rattle.gf2.proofs.Scans.{scanned, scanned-same}
 use Rattle.gf2.proofs.Values.{Values, known-listed}
 use Rattle.gf2.proofs.Reach.{opened-reached}
@@ -51,7 +49,7 @@ use Rattle.opening.specs.Opened.{AllIn, Stopped}
 use Rattle.opening.proofs.Opens.{opens-built, open-made, open-fails}
 use Rattle.parity.specs.declared.Opening.{Opening}
 use Rattle.parity.specs.declared.Opening.the-variants.{OpenRefused, Unsatisfiable, Opened}
-use Rattle.parity.specs.Promises.{Stands, nothingOpen, opensWith, openOwn, openChecks, OpenDone, OpenPromise}
+use Rattle.parity.specs.Promises.{Stands, nothingOpen, opensWith, openOwn, openChecks, OpenPromise}
 use Rattle.parity.specs.Openings.{openReading, RowsOpened, all-in, stopped}
 use Rattle.parity.proofs.Part.{front-long, front-bit, replaced-front, replaced-worked}
 use Rattle.lists.proofs.Picking.{listed-take}

@@ -2,7 +2,7 @@
 --   front-long, front-bit   they are 4,096; their bits are the buffer's
 --   replaced-..             the buffer with other words in their place: its front, its length and its rest
 -- Assumes nothing.
-use mathlib.Core.Path.{_≡_, refl, sym, ap, _∙_}
+use mathlib.Core.Path.{_≡_, sym, ap, _∙_}
 use mathlib.Core.List.{List, _++_}
 use lib.ListN.{length, take, drop, length-take, length-drop, length-append}
 use lib.Seq.{getD-take, take-append-seam, drop-append-seam}

@@ -3,7 +3,7 @@
 --   openSays, assumeSays, explainSays         the answer of the definitions, with its list read from the buffers as they then are
 -- A refusal says nothing of the state; what stands for it there is not read.
 -- Assumes nothing.
-use mathlib.Core.List.{List, []}
+use mathlib.Core.List.{List}
 use mathlib.Core.Option.{Option, none, some}
 use lib.ListN.{take}
 use Prim.Native.Nat.{ℕ}

@@ -9,12 +9,12 @@
 use mathlib.Core.Path.{_≡_}
 use mathlib.Core.Bool.{Bool, _||_}
 use mathlib.Core.List.{List, [], _∷_, _++_}
-use mathlib.Core.Option.{Option, none, some}
+use mathlib.Core.Option.{some}
 use lib.ListN.{length, take, drop}
 use lib.Dec.{ltb}
 use Prim.Native.Nat.{ℕ, suc, _+_, _*_, _<_, _≤_}
 use Rattle.gf2.specs.Rows.{Row}
-use Rattle.gf2.specs.Answers.{variable, Position, start, withdrawn, moved, OpenAnswer, opened, unsatisfiable, AnswersOpen, AssumeAnswer, AnswersAssume, ExplainAnswer, Explanation, Unexplained, Reached}
+use Rattle.gf2.specs.Answers.{variable, Position, start, withdrawn, moved, OpenAnswer, AnswersOpen, AssumeAnswer, AnswersAssume, ExplainAnswer, Explanation, Unexplained, Reached}
 use Rattle.linear.specs.State.{Kept}
 use Rattle.linear.specs.Positions.{position}
 use Rattle.format.specs.Bits.{bitsOf}

@@ -3,3 +3,4 @@ pub mod Putting
 pub mod Settles
 pub mod Starts
 pub mod Restarts
+pub mod Follows

@@ -1,8 +1,10 @@
 -- ONE BIT OF EIGHT WORDS IS SET, in the words of the variables with a value and of the true ones.
 --   marked, marked-bit    eight words into one of which y has been joined, and their bits
 --   put-done              what put has done
+--   put-within            none is true without a value: nor after one more value
+--   or-some, or-right     what a disjunction of bits says
 -- Assumes nothing.
-use mathlib.Core.Path.{_≡_, sym, ap, ap₂, _∙_}
+use mathlib.Core.Path.{_≡_, refl, sym, ap, ap₂, _∙_}
 use mathlib.Core.List.{List}
 use mathlib.Core.Bool.{Bool, true, false, _&&_, _||_, cond, and-true, and-false, or-false}
 use mathlib.Core.Logic.{_⊎_, inl, inr, _≢_}
@@ -15,10 +17,25 @@ use Rattle.gf2.specs.Field.{same}
 use Rattle.gf2.proofs.Sums.{same-dec, same-ne}
 use Rattle.words.specs.Words.{bitOf, bitAt, ownWord}
 use Rattle.words.proofs.Bits.{zero-bits, bit-or, own-bit, bit-same}
-use Rattle.tableau.specs.Layout.{knownAt, truthAt, recordAt, size}
+use Rattle.tableau.specs.Layout.{maxVars, knownAt, truthAt, recordAt, size}
 use Rattle.settle.specs.Values.{Put}
 
-module _ (ws : List ℕ) (off p : ℕ) (y : ℕ) (f : ℕ → Bool) (fits : off + 8 ≤ length ws) (lp : p < 512) (here : (i : ℕ) → i / 64 ≡ p / 64 → bitOf y (63 - i % 64) ≡ f i) (away : (i : ℕ) → i / 64 ≢ p / 64 → f i ≡ false) where
+pub or-some : (a b : Bool) → (a || b) ≡ true → (a ≡ true) ⊎ (b ≡ true)
+or-some true b h = inl refl
+or-some false b h = inr h
+
+or-left : (a b : Bool) → a ≡ true → (a || b) ≡ true
+or-left a b e = rw e
+
+pub or-right : (a b : Bool) → b ≡ true → (a || b) ≡ true
+or-right true b e = refl
+or-right false b e = e
+
+and-left : (a b : Bool) → a && b ≡ true → a ≡ true
+and-left true b h = refl
+and-left false b h = h
+
+module _ (ws : List ℕ) (off p : ℕ) (y : ℕ) (f : ℕ → Bool) (fits : off + 8 ≤ length ws) (lp : p < maxVars) (here : (i : ℕ) → i / 64 ≡ p / 64 → bitOf y (63 - i % 64) ≡ f i) (away : (i : ℕ) → i / 64 ≢ p / 64 → f i ≡ false) where
   abbrev pub marked : List ℕ
   marked = set ws (off + p / 64) (bitOr (getD ws (off + p / 64) 0) y)
 
@@ -35,7 +52,7 @@ module _ (ws : List ℕ) (off p : ℕ) (y : ℕ) (f : ℕ → Bool) (fits : off 
           ap (λ (x : ℕ). bitOf x (63 - i % 64)) (getD-set-other ws (off + p / 64) (off + i / 64) _ 0 (λ (z : off + i / 64 ≡ off + p / 64). d (omega arith)))
           ∙ sym (rw (away i d) (or-false _))
 
-pub put-done : (ws : List ℕ) (p : ℕ) (b : Bool) (m y : ℕ) → size ≤ length ws → p < 512 → m ≡ ownWord p (p / 64) → y ≡ cond b m 0
+pub put-done : (ws : List ℕ) (p : ℕ) (b : Bool) (m y : ℕ) → size ≤ length ws → p < maxVars → m ≡ ownWord p (p / 64) → y ≡ cond b m 0
     → Put p b ws (set (set ws (knownAt + p / 64) (bitOr (getD ws (knownAt + p / 64) 0) m)) (truthAt + p / 64) (bitOr (getD (set ws (knownAt + p / 64) (bitOr (getD ws (knownAt + p / 64) 0) m)) (truthAt + p / 64) 0) y))
 put-done ws p b m y big lp em ey =
     record {
@@ -66,3 +83,11 @@ put-done ws p b m y big lp em ey =
     rest : (i : ℕ) → (i < knownAt) ⊎ (recordAt ≤ i) → getD (set w₁ (truthAt + p / 64) (bitOr (getD w₁ (truthAt + p / 64) 0) y)) i 0 ≡ getD ws i 0
     rest i (inl h) = getD-set-other w₁ (truthAt + p / 64) i _ 0 (λ (z : i ≡ truthAt + p / 64). absurd (omega arith)) ∙ getD-set-other ws (knownAt + p / 64) i _ 0 (λ (z : i ≡ knownAt + p / 64). absurd (omega arith))
     rest i (inr h) = getD-set-other w₁ (truthAt + p / 64) i _ 0 (λ (z : i ≡ truthAt + p / 64). absurd (omega arith)) ∙ getD-set-other ws (knownAt + p / 64) i _ 0 (λ (z : i ≡ knownAt + p / 64). absurd (omega arith))
+
+-- none is true without a value: nor after one more value
+pub put-within : (ws w : List ℕ) (p : ℕ) (b : Bool) → Put p b ws w → ((i : ℕ) → i < maxVars → bitAt ws truthAt i ≡ true → bitAt ws knownAt i ≡ true) → (i : ℕ) → i < maxVars → bitAt w truthAt i ≡ true → bitAt w knownAt i ≡ true
+put-within ws w p b pt h i l e = pt .known i l ∙ go (or-some (bitAt ws truthAt i) (same p i && b) (sym (pt .truth i l) ∙ e))
+  where
+    go : (bitAt ws truthAt i ≡ true) ⊎ (same p i && b ≡ true) → (bitAt ws knownAt i || same p i) ≡ true
+    go (inl x) = or-left (bitAt ws knownAt i) (same p i) (h i l x)
+    go (inr x) = or-right (bitAt ws knownAt i) (same p i) (and-left (same p i) b x)

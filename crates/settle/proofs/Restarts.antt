@@ -11,17 +11,18 @@ use native.Mathlib.Omega.{arith}
 use lib.ListN.{length, getD}
 use Rattle.gf2.specs.Rows.{Row}
 use Rattle.linear.specs.State.{Built, Taken, Finished}
+use Rattle.linear.proofs.Assume.{clash}
 use Rattle.linear.proofs.Settling.{settle-made, taken-fewer}
-use Rattle.tableau.specs.Layout.{knownAt, truthAt, recordAt, size}
+use Rattle.tableau.specs.Layout.{maxVars, maxRows, knownAt, truthAt, recordAt, size}
 use Rattle.tableau.specs.View.{RowsRead, ValuesRead, LitsRead, vals, MadeAt}
 use Rattle.tableau.proofs.Reading.{rows-stay, entry-stay, lits-stay}
 use Rattle.settle.specs.Values.{Restarted}
-use Rattle.settle.proofs.Settles.{settle-finished, settle-rest}
-use Rattle.settle.proofs.Starts.{entries-started, entries-rest, entries-basic}
+use Rattle.settle.proofs.Settles.{settle-finished, settle-rest, settle-within}
+use Rattle.settle.proofs.Starts.{entries-started, entries-rest, entries-within, entries-basic}
 
 -- ---- the values made anew: for open, assume and back
 module _ (n m : ℕ) (Sheet : ℕ → Row) (kept : ℕ → Bool) (d : ℕ) (x : ℕ → ℕ) (y : ℕ → Bool) (k : ℕ) (R : ℕ → Row) (β : ℕ → ℕ) (S : ℕ → ℕ → Bool) (ws w : List ℕ)
-    (ln : n ≤ 512) (lk : k ≤ 256) (big : size ≤ length ws) (len : length w ≡ length ws)
+    (ln : n ≤ maxVars) (lk : k ≤ maxRows) (big : size ≤ length ws) (len : length w ≡ length ws)
     (b : Built n m Sheet kept m k R β S) (t : Taken n d x k β) (rr : RowsRead n k ws R β S) (lr : LitsRead d ws x y) (re : Restarted k d ws w) where
   rest-a : (i : ℕ) → (i < knownAt) ⊎ (recordAt ≤ i) → getD (re .empty) i 0 ≡ getD ws i 0
   rest-a i h = re .cleared .rest i h
@@ -36,16 +37,16 @@ module _ (n m : ℕ) (Sheet : ℕ → Row) (kept : ℕ → Bool) (d : ℕ) (x : 
   rows-b = rows-stay n k ws (re .begun) R β S lk (λ i h. rest-b i (inl h)) rr
 
   values-b : ValuesRead (re .begun) (vals (re .begun) knownAt) (vals (re .begun) truthAt)
-  values-b = record { knows = λ i l. refl; trues = λ i l. refl }
+  values-b = record { knows = λ i l. refl; trues = λ i l. refl; within = entries-within n d k (re .empty) x y β ln t ws lits-a (re .cleared) (re .begun) (re .set) }
 
-  basic-b : (r : ℕ) → r < k → (vals (re .begun) knownAt (β r) ≡ false) × (vals (re .begun) truthAt (β r) ≡ false)
+  basic-b : (r : ℕ) → r < k → vals (re .begun) knownAt (β r) ≡ false
   basic-b r l = entries-basic n d k (re .empty) x y β ln t ws lits-a (re .cleared) (re .begun) (re .set) (β r) (b .tableau .var r l) (λ j h e. t .apart j h r l (sym e))
 
   finished : Finished n k R β (vals (re .begun) knownAt) (vals (re .begun) truthAt) (vals w knownAt) (vals w truthAt)
-  finished = settle-finished n k (re .begun) R β S _ _ ln lk (b .tableau) rows-b values-b (λ r l. basic-b r l .0) (λ r l. basic-b r l .1) w (re .settled)
+  finished = settle-finished n k (re .begun) R β S _ _ ln lk (b .tableau) rows-b values-b (λ r l e. absurd (clash _ e (basic-b r l))) w (re .settled)
 
   rest-w : (i : ℕ) → (i < knownAt) ⊎ (recordAt ≤ i) → getD w i 0 ≡ getD ws i 0
-  rest-w i h = settle-rest n k (re .begun) R β S _ _ ln lk (b .tableau) rows-b values-b (λ r l. basic-b r l .0) (λ r l. basic-b r l .1) w (re .settled) i h ∙ rest-b i h
+  rest-w i h = settle-rest n k (re .begun) R β S _ _ ln lk (b .tableau) rows-b values-b (λ r l e. absurd (clash _ e (basic-b r l))) w (re .settled) i h ∙ rest-b i h
 
   pub restart-made : MadeAt w n m Sheet kept d x y k
   restart-made =
@@ -59,7 +60,7 @@ module _ (n m : ℕ) (Sheet : ℕ → Row) (kept : ℕ → Bool) (d : ℕ) (x : 
         few = lk;
         room = omega arith;
         rows = rows-stay n k ws w R β S lk (λ i h. rest-w i (inl h)) rr;
-        values = record { knows = λ i l. refl; trues = λ i l. refl };
+        values = record { knows = λ i l. refl; trues = λ i l. refl; within = settle-within n k (re .begun) R β S _ _ ln lk (b .tableau) rows-b values-b (λ r l e. absurd (clash _ e (basic-b r l))) w (re .settled) };
         lits = lits-stay d ws w x y (λ j l. entry-stay ws w (λ i h. rest-w i (inr h)) j) lr;
         made = settle-made n m Sheet kept k R β S b d x y t _ _ _ _ (entries-started n d k (re .empty) x y β ln t ws lits-a (re .cleared) (re .begun) (re .set)) finished;
       }

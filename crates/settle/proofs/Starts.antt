@@ -2,11 +2,12 @@
 --   Putting j w        the first j entries have been set
 --   entries-started    all have been
 --   entries-rest       the words around the values stay
+--   entries-within     none is true without a value
 --   entries-basic      a variable that is not taken has no value
 -- Assumes nothing.
 use mathlib.Core.Path.{_≡_, refl, sym, ap, _∙_}
 use mathlib.Core.List.{List}
-use mathlib.Core.Bool.{Bool, true, false, _&&_, _||_, or-false}
+use mathlib.Core.Bool.{Bool, true, false, or-false}
 use mathlib.Core.Logic.{_⊎_, inl, inr, _≢_}
 use Prim.Native.Nat.{ℕ, zero, suc, _+_, _-_, _/_, _%_, _<_, _≤_}
 use native.Mathlib.Nat.{not-suc-le-zero}
@@ -22,27 +23,13 @@ use Rattle.linear.proofs.Exchange.{at-or-not}
 use Rattle.words.specs.Words.{bitOf, bitAt}
 use Rattle.words.proofs.Bits.{zero-bits}
 use Rattle.tableau.specs.Buffer.{Run, Chain, entryAt}
-use Rattle.tableau.specs.Layout.{knownAt, truthAt, recordAt}
+use Rattle.tableau.specs.Layout.{maxVars, knownAt, truthAt, recordAt}
 use Rattle.tableau.specs.View.{LitsRead, vals}
 use Rattle.tableau.proofs.Reading.{bit-of, entry-stay}
+use Rattle.settle.proofs.Putting.{or-some, or-right, put-within}
 use Rattle.settle.specs.Values.{Entry, Put, EntrySet}
 
-or-some : (a b : Bool) → (a || b) ≡ true → (a ≡ true) ⊎ (b ≡ true)
-or-some true b h = inl refl
-or-some false b h = inr h
-
-or-left : (a b : Bool) → a ≡ true → (a || b) ≡ true
-or-left a b e = rw e
-
-or-right : (a b : Bool) → b ≡ true → (a || b) ≡ true
-or-right true b e = refl
-or-right false b e = e
-
-and-left : (a b : Bool) → a && b ≡ true → a ≡ true
-and-left true b h = refl
-and-left false b h = h
-
-cleared : (ws w : List ℕ) → Run knownAt 16 (λ i. 0) ws w → (i : ℕ) → i < 512 → (bitAt w knownAt i ≡ false) × (bitAt w truthAt i ≡ false)
+cleared : (ws w : List ℕ) → Run knownAt 16 (λ i. 0) ws w → (i : ℕ) → i < maxVars → (bitAt w knownAt i ≡ false) × (bitAt w truthAt i ≡ false)
 unfolding bitAt
 cleared ws w r i l =
     let e : truthAt + i / 64 ≡ knownAt + (8 + i / 64) = omega arith in (
@@ -50,13 +37,13 @@ cleared ws w r i l =
       ap (λ (x : ℕ). bitOf (getD w x 0) (63 - i % 64)) e ∙ ap (λ (x : ℕ). bitOf x (63 - i % 64)) (r .done (8 + i / 64) (omega arith)) ∙ zero-bits (63 - i % 64),
     )
 
-module _ (n d k : ℕ) (ws : List ℕ) (x : ℕ → ℕ) (y : ℕ → Bool) (β : ℕ → ℕ) (ln : n ≤ 512) (t : Taken n d x k β) (ws₀ : List ℕ) (lr : LitsRead d ws x y) (run : Run knownAt 16 (λ i. 0) ws₀ ws) where
+module _ (n d k : ℕ) (ws : List ℕ) (x : ℕ → ℕ) (y : ℕ → Bool) (β : ℕ → ℕ) (ln : n ≤ maxVars) (t : Taken n d x k β) (ws₀ : List ℕ) (lr : LitsRead d ws x y) (run : Run knownAt 16 (λ i. 0) ws₀ ws) where
   -- the first j entries have been set
   pub record Putting (j : ℕ) (w : List ℕ) : Type 0 where
     pub rest : (i : ℕ) → (i < knownAt) ⊎ (recordAt ≤ i) → getD w i 0 ≡ getD ws i 0
     pub on : (q : ℕ) → q < j → (vals w knownAt (x q) ≡ true) × (vals w truthAt (x q) ≡ y q)
-    pub off : (i : ℕ) → i < 512 → bitAt w knownAt i ≡ true → (q : ℕ) × (q < j) × (x q ≡ suc i)
-    pub within : (i : ℕ) → i < 512 → bitAt w truthAt i ≡ true → bitAt w knownAt i ≡ true
+    pub off : (i : ℕ) → i < maxVars → bitAt w knownAt i ≡ true → (q : ℕ) × (q < j) × (x q ≡ suc i)
+    pub within : (i : ℕ) → i < maxVars → bitAt w truthAt i ≡ true → bitAt w knownAt i ≡ true
 
   putting-none : Putting 0 ws
   putting-none =
@@ -83,14 +70,14 @@ module _ (n d k : ℕ) (ws : List ℕ) (x : ℕ → ℕ) (y : ℕ → Bool) (β 
     mine : suc (x j - 1) ≡ x j
     mine = bit-of (x j) (t .var j lj .low)
 
-    small : x j - 1 < 512
+    small : x j - 1 < maxVars
     small = let a = t .var j lj .low in let b = t .var j lj .high in omega arith
 
     module _ (pt : Put (x j - 1) (y j) w w′) where
       away-vals : (v : ℕ) → Var n v → v ≢ x j → (vals w′ knownAt v ≡ vals w knownAt v) × (vals w′ truthAt v ≡ vals w truthAt v)
       away-vals zero m e = absurd (not-suc-le-zero (m .low))
       away-vals (suc i) m e =
-          let l : i < 512 = let h = m .high in omega arith in
+          let l : i < maxVars = let h = m .high in omega arith in
           let z = same-ne (x j - 1) i (λ q. e (ap suc (sym q) ∙ mine)) in
           (pt .known i l ∙ rw z (or-false _), pt .truth i l ∙ rw z (or-false _))
 
@@ -111,7 +98,7 @@ module _ (n d k : ℕ) (ws : List ℕ) (x : ℕ → ℕ) (y : ℕ → Bool) (β 
             on = at-or-not (suc j) j (λ q. (vals w′ knownAt (x q) ≡ true) × (vals w′ truthAt (x q) ≡ y q)) here
                 (λ q l e. let a = away-vals (x q) (t .var q (omega arith)) (λ z. e (t .distinct q j (omega arith) lj z)) in let o = st .on q (omega arith) in (a .0 ∙ o .0, a .1 ∙ o .1));
             off = λ i l e. off i l (or-some (bitAt w knownAt i) (same (x j - 1) i) (sym (pt .known i l) ∙ e));
-            within = λ i l e. pt .known i l ∙ within i l (or-some (bitAt w truthAt i) (same (x j - 1) i && y j) (sym (pt .truth i l) ∙ e));
+            within = put-within w w′ (x j - 1) (y j) pt (st .within);
           }
         where
           here : (vals w′ knownAt (x j) ≡ true) × (vals w′ truthAt (x j) ≡ y j)
@@ -120,13 +107,9 @@ module _ (n d k : ℕ) (ws : List ℕ) (x : ℕ → ℕ) (y : ℕ → Bool) (β 
             sym (ap (vals w′ truthAt) mine) ∙ pt .truth (x j - 1) small ∙ rw (new, same-refl (x j - 1)),
           )
 
-          off : (i : ℕ) → i < 512 → (bitAt w knownAt i ≡ true) ⊎ (same (x j - 1) i ≡ true) → (q : ℕ) × (q < suc j) × (x q ≡ suc i)
+          off : (i : ℕ) → i < maxVars → (bitAt w knownAt i ≡ true) ⊎ (same (x j - 1) i ≡ true) → (q : ℕ) × (q < suc j) × (x q ≡ suc i)
           off i l (inl e) = let o = st .off i l e in (o .0, let h = o .1 in omega arith, o .2)
           off i l (inr e) = (j, omega arith, sym mine ∙ ap suc (same-eq (x j - 1) i e))
-
-          within : (i : ℕ) → i < 512 → (bitAt w truthAt i ≡ true) ⊎ (same (x j - 1) i && y j ≡ true) → (bitAt w knownAt i || same (x j - 1) i) ≡ true
-          within i l (inl e) = or-left _ _ (st .within i l e)
-          within i l (inr e) = or-right (bitAt w knownAt i) _ (and-left _ _ e)
 
     putting-step : EntrySet j w w′ → Putting (suc j) w′
     putting-step (inl h) = absurd (h .1 entry)
@@ -137,10 +120,10 @@ module _ (n d k : ℕ) (ws : List ℕ) (x : ℕ → ℕ) (y : ℕ → Bool) (β 
   putting (suc j) l w c = putting-step j l (c .0) w (putting j (omega arith) (c .0) (c .2)) (c .3)
 
   module _ (w : List ℕ) (c : Chain EntrySet d ws w) where
-    pub entries-started : Started n d x y (vals w knownAt) (vals w truthAt)
+    pub entries-started : Started n d x y k β (vals w knownAt) (vals w truthAt)
     entries-started =
         let s = putting d (omega arith) w c in
-        record { on = s .on; off = λ v m e. off v m e s }
+        record { on = s .on; off = λ v m nb e. off v m e s }
       where
         off : (v : ℕ) → Var n v → vals w knownAt v ≡ true → Putting d w → (j : ℕ) × (j < d) × (x j ≡ v)
         off zero m e s = absurd (not-suc-le-zero (m .low))
@@ -149,20 +132,13 @@ module _ (n d k : ℕ) (ws : List ℕ) (x : ℕ → ℕ) (y : ℕ → Bool) (β 
     pub entries-rest : (i : ℕ) → (i < knownAt) ⊎ (recordAt ≤ i) → getD w i 0 ≡ getD ws i 0
     entries-rest = putting d (omega arith) w c .rest
 
-    pub entries-basic : (v : ℕ) → Var n v → ((j : ℕ) → j < d → x j ≢ v) → (vals w knownAt v ≡ false) × (vals w truthAt v ≡ false)
+    pub entries-within : (i : ℕ) → i < maxVars → bitAt w truthAt i ≡ true → bitAt w knownAt i ≡ true
+    entries-within = putting d (omega arith) w c .within
+
+    pub entries-basic : (v : ℕ) → Var n v → ((j : ℕ) → j < d → x j ≢ v) → vals w knownAt v ≡ false
     entries-basic zero m h = absurd (not-suc-le-zero (m .low))
-    entries-basic (suc i) m h = (no-known (bool-dec (bitAt w knownAt i)), no-truth (bool-dec (bitAt w truthAt i)))
+    entries-basic (suc i) m h = go (bool-dec (bitAt w knownAt i))
       where
-        s : Putting d w
-        s = putting d (omega arith) w c
-
-        l : i < 512
-        l = let g = m .high in omega arith
-
-        no-known : (bitAt w knownAt i ≡ true) ⊎ (bitAt w knownAt i ≡ false) → bitAt w knownAt i ≡ false
-        no-known (inr e) = e
-        no-known (inl e) = let o = s .off i l e in absurd (h (o .0) (o .1) (o .2))
-
-        no-truth : (bitAt w truthAt i ≡ true) ⊎ (bitAt w truthAt i ≡ false) → bitAt w truthAt i ≡ false
-        no-truth (inr e) = e
-        no-truth (inl e) = let o = s .off i l (s .within i l e) in absurd (h (o .0) (o .1) (o .2))
+        go : (bitAt w knownAt i ≡ true) ⊎ (bitAt w knownAt i ≡ false) → bitAt w knownAt i ≡ false
+        go (inr e) = e
+        go (inl e) = let o = putting d (omega arith) w c .off i (let g = m .high in omega arith) e in absurd (h (o .0) (o .1) (o .2))

@@ -1,12 +1,11 @@
 -- THE TEST FOR THE ONE VARIABLE OF A ROW WITHOUT A VALUE, word by word.
 --   open-word ws r j      word j of the variables of row r that have no value, as the code makes it
---   open-in               its bits; open-yes, open-no: as the code reads them
 --   rest-word ws r p j    the same without variable p + 1: 0 in each word where p + 1 is the only one
 --   full-more, word-bad   a word that passes the test, and that each would
 -- Assumes nothing.
 use mathlib.Core.Path.{_≡_, sym, ap, ap₂, _∙_}
 use mathlib.Core.List.{List}
-use mathlib.Core.Bool.{Bool, true, false}
+use mathlib.Core.Bool.{Bool}
 use Prim.Native.Nat.{ℕ, _+_, _*_, _-_, _/_, _%_, _^_, _<_}
 use native.Mathlib.Nat.{lt-of-le-of-lt}
 use native.Mathlib.Decide.{decLt}
@@ -15,9 +14,9 @@ use lib.ListN.{getD}
 use lib.Bits.{bitAnd, bitXor, xor-lt, and-le-l}
 use Rattle.gf2.specs.Field.{_⊕_, same}
 use Rattle.gf2.proofs.Field.{xor-eq, eq-xor}
-use Rattle.words.specs.Words.{digit, bitOf, bitAt, ownWord}
+use Rattle.words.specs.Words.{bitOf, bitAt, ownWord}
 use Rattle.words.proofs.Bits.{bit-xor, bit-and, bits-zero, zero-bits, own-bit, own-lt}
-use Rattle.tableau.specs.Layout.{rowAt, knownAt}
+use Rattle.tableau.specs.Layout.{maxVars, rowAt, knownAt}
 use Rattle.settle.specs.Values.{lacks}
 
 module _ (ws : List ℕ) (r : ℕ) where
@@ -29,18 +28,6 @@ module _ (ws : List ℕ) (r : ℕ) where
   open-bit i =
       bit-xor (getD ws (rowAt r + i / 64) 0) (bitAnd (getD ws (rowAt r + i / 64) 0) (getD ws (knownAt + i / 64) 0)) (63 - i % 64)
       ∙ ap (λ (x : Bool). bitOf (getD ws (rowAt r + i / 64) 0) (63 - i % 64) ⊕ x) (bit-and (getD ws (rowAt r + i / 64) 0) (getD ws (knownAt + i / 64) 0) (63 - i % 64))
-
-  open-in : (w b : ℕ) → b < 64 → bitOf (open-word w) (63 - b) ≡ lacks ws r (w * 64 + b)
-  open-in w b l =
-      let q : (w * 64 + b) / 64 ≡ w = omega arith in
-      let s : (w * 64 + b) % 64 ≡ b = omega arith in
-      sym (ap₂ (λ (x y : ℕ). bitOf (open-word x) (63 - y)) q s) ∙ open-bit (w * 64 + b)
-
-  pub open-yes : (w b : ℕ) → b < 64 → open-word w / 2 ^ (63 - b) % 2 ≡ 1 → lacks ws r (w * 64 + b) ≡ true
-  open-yes w b l e = sym (open-in w b l) ∙ ap digit e
-
-  pub open-no : (w b : ℕ) → b < 64 → (open-word w / 2 ^ (63 - b) % 2 ≡ 1 → ⊥) → lacks ws r (w * 64 + b) ≡ false
-  open-no w b l d = let e : open-word w / 2 ^ (63 - b) % 2 ≡ 0 = omega (arith, d) in sym (open-in w b l) ∙ ap digit e
 
   module _ (p : ℕ) where
     abbrev pub rest-word : ℕ → ℕ
@@ -59,7 +46,7 @@ module _ (ws : List ℕ) (r : ℕ) where
         go (yes z) = h i z
         go (no z) = let q : i / 64 ≡ j = omega arith in word-ok j e i q
 
-    pub word-bad : (j : ℕ) → j < 8 → getD ws (rowAt r + j) 0 < 2 ^ 64 → ((i : ℕ) → i < 512 → lacks ws r i ≡ same p i) → rest-word j ≡ 0
+    pub word-bad : (j : ℕ) → j < 8 → getD ws (rowAt r + j) 0 < 2 ^ 64 → ((i : ℕ) → i < maxVars → lacks ws r i ≡ same p i) → rest-word j ≡ 0
     word-bad j l f h =
         bits-zero 64 (rest-word j) (xor-lt 64 _ _ (xor-lt 64 _ _ f (lt-of-le-of-lt (and-le-l (getD ws (rowAt r + j) 0) (getD ws (knownAt + j) 0)) f)) (own-lt p j))
         (λ t m.

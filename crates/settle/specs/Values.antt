@@ -7,39 +7,41 @@
 --   RowSettled r ws w     row r has given its basic variable a value, if it can
 --   Entry, EntrySet       an entry of the record that is a literal; its variable has been given its value
 --   Restarted k d ws w    the values have been made anew from the first d entries and the first k rows
+--   RowFollowed p r ws w  row r has been settled, if it has variable p + 1
+--   Followed k p b ws w   variable p + 1 has been given the value b, and the rows below k that have it have been settled
 -- Assumes nothing.
 use mathlib.Core.Path.{_≡_}
 use mathlib.Core.List.{List}
 use mathlib.Core.Logic.{_⊎_}
 use mathlib.Core.Bool.{Bool, true, false, _&&_, _||_}
-use Prim.Native.Nat.{ℕ, _-_, _/_, _%_, _<_, _≤_}
+use Prim.Native.Nat.{ℕ, _+_, _*_, _-_, _/_, _%_, _<_, _≤_}
 use lib.ListN.{length, getD}
 use lib.Dec.{eqb}
 use Rattle.gf2.specs.Field.{_⊕_, xsum, same}
 use Rattle.words.specs.Words.{bitAt}
-use Rattle.tableau.specs.Layout.{rowAt, knownAt, truthAt, recordAt}
+use Rattle.tableau.specs.Layout.{maxVars, rowAt, knownAt, truthAt, recordAt}
 use Rattle.tableau.specs.Buffer.{Run, basicAt, parityAt, entryAt, Chain}
 
 unfoldable pub lacks : List ℕ → ℕ → ℕ → Bool
 lacks ws r i = bitAt ws (rowAt r) i ⊕ (bitAt ws (rowAt r) i && bitAt ws knownAt i)
 
 pub record Full (ws : List ℕ) (r p : ℕ) (x : Bool) : Type 0 where
-  pub yes : x ≡ true → (i : ℕ) → i < 512 → lacks ws r i ≡ same p i
-  pub no : x ≡ false → ((i : ℕ) → i < 512 → lacks ws r i ≡ same p i) → ⊥
+  pub yes : x ≡ true → (i : ℕ) → i < maxVars → lacks ws r i ≡ same p i
+  pub no : x ≡ false → ((i : ℕ) → i < maxVars → lacks ws r i ≡ same p i) → ⊥
 
 pub record Put (p : ℕ) (b : Bool) (ws w : List ℕ) : Type 0 where
   pub len : length w ≡ length ws
-  pub known : (i : ℕ) → i < 512 → bitAt w knownAt i ≡ (bitAt ws knownAt i || same p i)
-  pub truth : (i : ℕ) → i < 512 → bitAt w truthAt i ≡ (bitAt ws truthAt i || (same p i && b))
+  pub known : (i : ℕ) → i < maxVars → bitAt w knownAt i ≡ (bitAt ws knownAt i || same p i)
+  pub truth : (i : ℕ) → i < maxVars → bitAt w truthAt i ≡ (bitAt ws truthAt i || (same p i && b))
   pub rest : (i : ℕ) → (i < knownAt) ⊎ (recordAt ≤ i) → getD w i 0 ≡ getD ws i 0
 
 abbrev pub valueAt : List ℕ → ℕ → Bool
-valueAt ws r = parityAt ws r ⊕ xsum 512 (λ i. bitAt ws (rowAt r) i && bitAt ws truthAt i)
+valueAt ws r = parityAt ws r ⊕ xsum maxVars (λ i. bitAt ws (rowAt r) i && bitAt ws truthAt i)
 
 pub record Can (ws : List ℕ) (r : ℕ) : Type 0 where
   pub low : 0 < basicAt ws r
-  pub high : basicAt ws r ≤ 512
-  pub alone : (i : ℕ) → i < 512 → lacks ws r i ≡ same (basicAt ws r - 1) i
+  pub high : basicAt ws r ≤ maxVars
+  pub alone : (i : ℕ) → i < maxVars → lacks ws r i ≡ same (basicAt ws r - 1) i
 
 pub record Ready (ws : List ℕ) (r x : ℕ) : Type 0 where
   pub none : x ≡ 0 → Can ws r → ⊥
@@ -50,7 +52,7 @@ RowSettled r ws w = ((w ≡ ws) × (Can ws r → ⊥)) ⊎ (Can ws r × Put (bas
 
 pub record Entry (ws : List ℕ) (j : ℕ) : Type 0 where
   pub low : 2 ≤ entryAt ws j
-  pub high : entryAt ws j < 1026
+  pub high : entryAt ws j < 2 * maxVars + 2
 
 abbrev pub EntrySet : ℕ → List ℕ → List ℕ → Type 0
 EntrySet j ws w = ((w ≡ ws) × (Entry ws j → ⊥)) ⊎ (Entry ws j × Put (entryAt ws j / 2 - 1) (eqb (entryAt ws j % 2) 0) ws w)
@@ -61,3 +63,11 @@ pub record Restarted (k d : ℕ) (ws w : List ℕ) : Type 0 where
   pub cleared : Run knownAt 16 (λ i. 0) ws empty
   pub set : Chain EntrySet d empty begun
   pub settled : Chain RowSettled k begun w
+
+abbrev pub RowFollowed : ℕ → ℕ → List ℕ → List ℕ → Type 0
+RowFollowed p r ws w = ((w ≡ ws) × (bitAt ws (rowAt r) p ≡ false)) ⊎ ((bitAt ws (rowAt r) p ≡ true) × RowSettled r ws w)
+
+pub record Followed (k p : ℕ) (b : Bool) (ws w : List ℕ) : Type 0 where
+  pub begun : List ℕ
+  pub given : Put p b ws begun
+  pub settled : Chain (RowFollowed p) k begun w

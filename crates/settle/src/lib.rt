@@ -1,4 +1,4 @@
-// Values: those of the taken literals, and then what each row gives its basic variable.
+// Values: those of the taken literals, and then what each row gives its basic variable; all anew, or on from one more literal.
 use tableau::KNOWN;
 use tableau::LAST;
 use tableau::ROW;
@@ -6,18 +6,19 @@ use tableau::TRUTH;
 use tableau::copy_truth;
 use tableau::entry;
 use tableau::load;
+use words::bit;
 use words::odd;
 use words::own;
 ghost use mathlib.Core.Path.{_≡_};
-ghost use Prim.Native.Nat.{ℕ, _-_, _<_, _≤_};
+ghost use Prim.Native.Nat.{_-_, _<_, _≤_};
 ghost use lib.ListN.{length};
-ghost use Rattle.tableau.specs.Layout.{knownAt, size};
+ghost use Rattle.tableau.specs.Layout.{maxVars, maxRows, maxTaken, knownAt, size};
 ghost use Rattle.tableau.specs.Buffer.{Run, Chain};
-ghost use Rattle.settle.specs.Values.{Full, Put, valueAt, Ready, RowSettled, EntrySet, Restarted};
+ghost use Rattle.settle.specs.Values.{Full, Put, valueAt, Ready, RowSettled, EntrySet, Restarted, RowFollowed, Followed};
 
 // Variable v gets the value b.
 pub fn put(work: &mut [u64], v: usize, b: bool)
-    requires { ⌜ (size ≤ length (now work)) × (0 < v) × (v ≤ 512) ⌝ }
+    requires { ⌜ (size ≤ length (now work)) × (0 < v) × (v ≤ maxVars) ⌝ }
     ensures { λ _. ⌜ Put (v - 1) b (now (work .entry)) (now (work .exit)) ⌝ }
 {
     let p = v - 1;
@@ -32,7 +33,7 @@ pub fn put(work: &mut [u64], v: usize, b: bool)
 
 // Whether v is the one variable of row r without a value.
 pub fn full(work: &[u64], r: usize, v: usize) -> bool
-    requires { ⌜ (size ≤ length (now work)) × (r < 256) × (0 < v) × (v ≤ 512) ⌝ }
+    requires { ⌜ (size ≤ length (now work)) × (r < maxRows) × (0 < v) × (v ≤ maxVars) ⌝ }
     ensures { λ x. ⌜ Full (now (work .entry)) r (v - 1) x ⌝ }
 {
     let a = ROW * r;
@@ -51,7 +52,7 @@ pub fn full(work: &[u64], r: usize, v: usize) -> bool
 
 // The value that row r gives its basic variable, which counts as false so far.
 pub fn value(work: &[u64], r: usize) -> bool
-    requires { ⌜ (size ≤ length (now work)) × (r < 256) ⌝ }
+    requires { ⌜ (size ≤ length (now work)) × (r < maxRows) ⌝ }
     ensures { λ x. ⌜ x ≡ valueAt (now (work .entry)) r ⌝ }
 {
     let b = odd(load(work, r), copy_truth(work));
@@ -60,7 +61,7 @@ pub fn value(work: &[u64], r: usize) -> bool
 
 // The basic variable of row r if it alone has no value in its row, else 0.
 pub fn ready(work: &[u64], r: usize) -> usize
-    requires { ⌜ (size ≤ length (now work)) × (r < 256) ⌝ }
+    requires { ⌜ (size ≤ length (now work)) × (r < maxRows) ⌝ }
     ensures { λ x. ⌜ Ready (now (work .entry)) r x ⌝ }
 {
     let x = work[ROW * r + LAST];
@@ -76,7 +77,7 @@ pub fn ready(work: &[u64], r: usize) -> usize
 
 // Row r gives its basic variable a value, if it does.
 pub fn settle_row(work: &mut [u64], r: usize)
-    requires { ⌜ (size ≤ length (now work)) × (r < 256) ⌝ }
+    requires { ⌜ (size ≤ length (now work)) × (r < maxRows) ⌝ }
     ensures { λ _. ⌜ RowSettled r (now (work .entry)) (now (work .exit)) ⌝ }
 {
     let v = ready(work, r);
@@ -88,7 +89,7 @@ pub fn settle_row(work: &mut [u64], r: usize)
 
 // Every row below k gives its basic variable a value, if it does.
 pub fn settle(work: &mut [u64], k: usize)
-    requires { ⌜ (size ≤ length (now work)) × (k ≤ 256) ⌝ }
+    requires { ⌜ (size ≤ length (now work)) × (k ≤ maxRows) ⌝ }
     ensures { λ _. ⌜ Chain RowSettled k (now (work .entry)) (now (work .exit)) ⌝ }
 {
     let mut r = 0;
@@ -112,7 +113,7 @@ pub fn clear_values(work: &mut [u64])
 
 // The variable of entry j of the record gets its value, if the entry is a literal.
 pub fn put_entry(work: &mut [u64], j: usize)
-    requires { ⌜ (size ≤ length (now work)) × (j < 512) ⌝ }
+    requires { ⌜ (size ≤ length (now work)) × (j < maxTaken) ⌝ }
     ensures { λ _. ⌜ EntrySet j (now (work .entry)) (now (work .exit)) ⌝ }
 {
     let code = entry(work, j);
@@ -126,7 +127,7 @@ pub fn put_entry(work: &mut [u64], j: usize)
 
 // The variables of the first d entries of the record get their values.
 pub fn put_entries(work: &mut [u64], d: usize)
-    requires { ⌜ (size ≤ length (now work)) × (d ≤ 512) ⌝ }
+    requires { ⌜ (size ≤ length (now work)) × (d ≤ maxTaken) ⌝ }
     ensures { λ _. ⌜ Chain EntrySet d (now (work .entry)) (now (work .exit)) ⌝ }
 {
     let mut j = 0;
@@ -138,10 +139,33 @@ pub fn put_entries(work: &mut [u64], d: usize)
 
 // The values are made anew from the first d entries of the record and the first k rows.
 pub fn restart(work: &mut [u64], k: usize, d: usize)
-    requires { ⌜ (size ≤ length (now work)) × (k ≤ 256) × (d ≤ 512) ⌝ }
+    requires { ⌜ (size ≤ length (now work)) × (k ≤ maxRows) × (d ≤ maxTaken) ⌝ }
     ensures { λ _. ⌜ Restarted k d (now (work .entry)) (now (work .exit)) ⌝ }
 {
     clear_values(work);
     put_entries(work, d);
     settle(work, k);
+}
+
+// Row r gives its basic variable a value, if it has the variable v and does.
+pub fn follow_row(work: &mut [u64], v: usize, r: usize)
+    requires { ⌜ (size ≤ length (now work)) × (0 < v) × (v ≤ maxVars) × (r < maxRows) ⌝ }
+    ensures { λ _. ⌜ RowFollowed (v - 1) r (now (work .entry)) (now (work .exit)) ⌝ }
+{
+    if bit(work, ROW * r, v) {
+        settle_row(work, r);
+    }
+}
+
+// Variable v gets the value b, and each row below k that has it gives its basic variable a value, if it does.
+pub fn follow(work: &mut [u64], k: usize, v: usize, b: bool)
+    requires { ⌜ (size ≤ length (now work)) × (k ≤ maxRows) × (0 < v) × (v ≤ maxVars) ⌝ }
+    ensures { λ _. ⌜ Followed k (v - 1) b (now (work .entry)) (now (work .exit)) ⌝ }
+{
+    put(work, v, b);
+    let mut r = 0;
+    while r < k {
+        follow_row(work, v, r);
+        r += 1;
+    }
 }

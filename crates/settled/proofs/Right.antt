@@ -9,23 +9,23 @@ use mathlib.Core.Path.{_≡_, refl, sym, ap, ap₂, _∙_}
 use mathlib.Core.Option.{Option, none, some}
 use mathlib.Core.Bool.{Bool, true, false, not, _&&_, Bool·beq, true≢false, false≢true}
 use mathlib.Core.List.{List, [], _∷_}
-use mathlib.Core.Logic.{_⊎_, inl, inr, _≢_}
+use mathlib.Core.Logic.{inl, inr, _≢_}
 use lib.Dec.{eqb, leb, leb→le}
 use lib.ListN.{length}
-use Prim.Native.Nat.{ℕ, zero, suc, _*_}
+use Prim.Native.Nat.{ℕ, _*_}
 use Rattle.gf2.specs.Field.{xsum}
 use Rattle.gf2.specs.Lists.{_∈_, All}
 use Rattle.gf2.specs.Rows.{Var, Assignment, Rows, rowSum, total, Kept}
-use Rattle.gf2.specs.Answers.{code, value, variable, Implied, Solves, start, Literal, Position, OpenAnswer, unsatisfiable, opened, AnswersOpen, AssumeAnswer, held, conflict, implied, AnswersAssume, ExplainAnswer, AnswersExplain, Unexplained}
+use Rattle.gf2.specs.Answers.{code, value, variable, Implied, Solves, start, Literal, Position, OpenAnswer, unsatisfiable, opened, AssumeAnswer, held, conflict, implied, ExplainAnswer, AnswersExplain, Unexplained}
 use Rattle.gf2.specs.History.{Event, opens, assumes, backs, explains, refused, after, Right, Runs}
 use Rattle.format.specs.Bits.{odd, bitsN, bitsOf, valueOf}
 use Rattle.format.specs.Refusals.{refusal}
-use Rattle.format.specs.Sheet.{nOf, mOf, reader, rowsFrom, sheetRows}
+use Rattle.format.specs.Sheet.{mOf, reader, rowsFrom, sheetRows}
 use Rattle.settled.specs.Table.{table, accepted, fiveSheet, BSheet, five, B, wide}
 use Rattle.gf2.proofs.Brute.{find-part, all-pass, agree, run, every, solves, implies, listing-from, open-answer, assume-answer, explain-answer}
 use Rattle.gf2.proofs.Search.{and-both, all-pass-true, eqb-true, eqb-same, not-true}
 use Rattle.gf2.proofs.Lists.{all-at}
-use Rattle.gf2.proofs.Literals.{code-variable, code-value, code-of}
+use Rattle.gf2.proofs.Literals.{code-of}
 use Rattle.gf2.proofs.Decide.{Fits, Answered, run-takes, open-right, assume-right, explain-right}
 use Rattle.gf2.proofs.Sure.{explains-implied}
 use Rattle.gf2.proofs.Reach.{reached-solution}

@@ -6,14 +6,14 @@
 --   mistakes      answers that look right and are not
 --   wide          two constraints that differ past their first 64 columns
 -- Assumes nothing.
-use mathlib.Core.Option.{Option, none, some}
+use mathlib.Core.Option.{Option, some}
 use mathlib.Core.Bool.{Bool, true, false}
 use mathlib.Core.List.{List, [], _∷_}
 use Prim.Native.Nat.{ℕ, zero, suc}
 use Rattle.gf2.specs.Field.{_⊕_, same}
 use Rattle.gf2.specs.Rows.{Row, Numbered, Rows}
 use Rattle.gf2.specs.Answers.{Position, OpenAnswer, unsatisfiable, opened, held, conflict, implied, ExplainAnswer}
-use Rattle.gf2.specs.History.{Event, opens, assumes, backs, explains, Right, at-end}
+use Rattle.gf2.specs.History.{Event, opens, assumes, backs, explains}
 use Rattle.format.specs.Sheet.{nOf, sheetRows}
 
 -- a repeated variable cancels

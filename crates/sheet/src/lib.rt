@@ -36,23 +36,25 @@ fn row_at(at: Cursor, s: &[u8], n: usize) -> Row
     requires { ⌜ (n ≤ 512) × (at .at + (n + 1) ≤ 8 * length (now s)) × (at .at < 2 ^ 31) ⌝ }
     ensures { λ r. ⌜ (r .words ++ (r .parity ∷ []) ≡ rowWords n (drop (at .at) (bitsOf (now (s .entry))))) × (r .next .at ≡ at .at + (n + 1)) ⌝ }
 {
+    let k = n / 64;
+    let left = n % 64;
     let mut words = [0u64; 8];
     let mut c = at;
-    let mut left = n;
     let mut w: usize = 0;
-    while w < 8 {
-        let count = bits::shorter(64, left);
-        let f = c.top(s, count);
+    while w < k {
+        let f = c.field_64(s);
         words[w] = f.value;
         c = f.next;
-        left -= count;
         w += 1;
     }
-    let p = c.field(s, 1);
-    let next = p.next;
+    let last = c.field(s, left + 1);
+    if k < 8 {
+        words[k] = bits::raised(last.value / 2, 64 - left);
+    }
+    let next = last.next;
     Row {
         words,
-        parity: p.value,
+        parity: last.value % 2,
         next,
     }
 }

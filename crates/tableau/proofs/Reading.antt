@@ -16,7 +16,7 @@ use Rattle.gf2.specs.Field.{_⊕_}
 use Rattle.gf2.specs.Rows.{Row}
 use Rattle.words.specs.Words.{bitOf, digit, bitAt}
 use Rattle.words.proofs.Bits.{bit-same}
-use Rattle.tableau.specs.Layout.{rowAt, fromAt, lastAt, knownAt, recordAt}
+use Rattle.tableau.specs.Layout.{maxVars, maxRows, rowAt, fromAt, lastAt, knownAt, recordAt}
 use Rattle.tableau.specs.Buffer.{entryAt}
 use Rattle.tableau.specs.View.{RowsRead, LitsRead}
 
@@ -33,7 +33,7 @@ rows-below n k ws w R β S h rr =
       clean = rr .clean;
     }
 
-pub rows-stay : (n k : ℕ) (ws w : List ℕ) (R : ℕ → Row) (β : ℕ → ℕ) (S : ℕ → ℕ → Bool) → k ≤ 256 → ((i : ℕ) → i < knownAt → getD w i 0 ≡ getD ws i 0) → RowsRead n k ws R β S → RowsRead n k w R β S
+pub rows-stay : (n k : ℕ) (ws w : List ℕ) (R : ℕ → Row) (β : ℕ → ℕ) (S : ℕ → ℕ → Bool) → k ≤ maxRows → ((i : ℕ) → i < knownAt → getD w i 0 ≡ getD ws i 0) → RowsRead n k ws R β S → RowsRead n k w R β S
 rows-stay n k ws w R β S lk h = rows-below n k ws w R β S (λ i l. h i (omega arith))
 
 pub entry-stay : (ws w : List ℕ) → ((i : ℕ) → recordAt ≤ i → getD w i 0 ≡ getD ws i 0) → (j : ℕ) → entryAt w j ≡ entryAt ws j
@@ -43,11 +43,11 @@ entry-stay ws w h j = h (recordAt + j) (omega arith)
 pub lits-stay : (d : ℕ) (ws w : List ℕ) (x : ℕ → ℕ) (y : ℕ → Bool) → ((j : ℕ) → j < d → entryAt w j ≡ entryAt ws j) → LitsRead d ws x y → LitsRead d w x y
 lits-stay d ws w x y h lr = record { var = λ j l. ap (λ (z : ℕ). z / 2) (h j l) ∙ lr .var j l; val = λ j l. ap (λ (z : ℕ). eqb (z % 2) 0) (h j l) ∙ lr .val j l }
 
-pub prov-bit : (ws : List ℕ) (a j : ℕ) → bitAt ws (a + 8) j ≡ bitAt ws a (512 + j)
+pub prov-bit : (ws : List ℕ) (a j : ℕ) → bitAt ws (a + 8) j ≡ bitAt ws a (maxVars + j)
 unfolding bitAt
 prov-bit ws a j =
-    let e : a + 8 + j / 64 ≡ a + (512 + j) / 64 = omega arith in
-    let f : j % 64 ≡ (512 + j) % 64 = omega arith in
+    let e : a + 8 + j / 64 ≡ a + (maxVars + j) / 64 = omega arith in
+    let f : j % 64 ≡ (maxVars + j) % 64 = omega arith in
     ap₂ (λ (x y : ℕ). bitOf (getD ws x 0) (63 - y)) e f
 
 pub basic-kept : (x y z : ℕ) → x ≡ y / 2 * 2 + (y % 2 + z % 2) % 2 → x / 2 ≡ y / 2

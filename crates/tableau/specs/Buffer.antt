@@ -14,7 +14,7 @@ use Prim.Native.Nat.{ℕ, zero, suc, _+_, _*_, _/_, _%_, _<_, _≤_}
 use lib.ListN.{length, getD}
 use lib.Bits.{bitXor}
 use Rattle.words.specs.Words.{digit}
-use Rattle.tableau.specs.Layout.{rowSize, rowAt, lastAt, recordAt}
+use Rattle.tableau.specs.Layout.{coefWords, fromWords, rowSize, rowAt, lastAt, recordAt}
 
 pub record Run (off k : ℕ) (want : ℕ → ℕ) (ws w : List ℕ) : Type 0 where
   pub len : length w ≡ length ws
@@ -41,7 +41,7 @@ pub record Recorded (j code : ℕ) (ws w : List ℕ) : Type 0 where
 
 pub record Added (f t : ℕ) (ws w : List ℕ) : Type 0 where
   pub len : length w ≡ length ws
-  pub bits : (j : ℕ) → j < 12 → getD w (rowAt t + j) 0 ≡ bitXor (getD ws (rowAt t + j) 0) (getD ws (rowAt f + j) 0)
+  pub bits : (j : ℕ) → j < coefWords + fromWords → getD w (rowAt t + j) 0 ≡ bitXor (getD ws (rowAt t + j) 0) (getD ws (rowAt f + j) 0)
   pub last : getD w (lastAt t) 0 ≡ getD ws (lastAt t) 0 / 2 * 2 + (getD ws (lastAt t) 0 % 2 + getD ws (lastAt f) 0 % 2) % 2
   pub rest : (i : ℕ) → (i < rowAt t) ⊎ (rowAt t + rowSize ≤ i) → getD w i 0 ≡ getD ws i 0
 

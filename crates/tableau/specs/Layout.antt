@@ -1,37 +1,55 @@
--- THE WORKING BUFFER: where its words lie. src/lib.rt has the same numbers as constants.
+-- THE WORKING BUFFER: how much it holds, and where its words lie. src/lib.rt has the same numbers as constants.
+--
+--   maxVars, maxRows, maxTaken   the most variables, rows and taken literals
+--   coefWords, fromWords         the words of a bit for each variable, and for each row
 --
 --   words                   what
---   rowAt r  .. + rowSize   row r, for r below 256:
---     rowAt r  .. + 8         its coefficients, variable 1 in the top bit of the first word
---     fromAt r .. + 4         its provenance: which rows of the sheet were summed, row 1 in the top bit of the first word
+--   rowAt r  .. + rowSize   row r, for r below maxRows:
+--     rowAt r  .. + coefWords its coefficients, variable 1 in the top bit of the first word
+--     fromAt r .. + fromWords its provenance: which rows of the sheet were summed, row 1 in the top bit of the first word
 --     lastAt r                2 × its basic variable + its parity
---   knownAt  .. + 8         the variables that have a value
---   truthAt  .. + 8         those of them that are true
---   recordAt .. + 512       the codes of the taken literals, in the order in which they were taken
+--   knownAt  .. + coefWords the variables that have a value
+--   truthAt  .. + coefWords those of them that are true
+--   recordAt .. + maxTaken  the codes of the taken literals, in the order in which they were taken
 --   size                    the words in use
 -- Assumes nothing.
 use Prim.Native.Nat.{ℕ, _+_, _*_}
 
+abbrev pub maxVars : ℕ
+maxVars = 512
+
+abbrev pub maxRows : ℕ
+maxRows = 256
+
+abbrev pub maxTaken : ℕ
+maxTaken = maxVars
+
+abbrev pub coefWords : ℕ
+coefWords = 8
+
+abbrev pub fromWords : ℕ
+fromWords = 4
+
 abbrev pub rowSize : ℕ
-rowSize = 13
+rowSize = coefWords + fromWords + 1
 
 abbrev pub rowAt : ℕ → ℕ
 rowAt r = rowSize * r
 
 abbrev pub fromAt : ℕ → ℕ
-fromAt r = rowAt r + 8
+fromAt r = rowAt r + coefWords
 
 abbrev pub lastAt : ℕ → ℕ
-lastAt r = rowAt r + 12
+lastAt r = rowAt r + (coefWords + fromWords)
 
 abbrev pub knownAt : ℕ
-knownAt = 3328
+knownAt = rowSize * maxRows
 
 abbrev pub truthAt : ℕ
-truthAt = 3336
+truthAt = knownAt + coefWords
 
 abbrev pub recordAt : ℕ
-recordAt = 3344
+recordAt = truthAt + coefWords
 
 abbrev pub size : ℕ
 size = 4096

@@ -2,9 +2,9 @@
 use words::sum;
 use words::sum_from;
 ghost use mathlib.Core.Path.{_≡_};
-ghost use Prim.Native.Nat.{ℕ, _+_, _*_, _-_, _<_, _≤_};
+ghost use Prim.Native.Nat.{_+_, _*_, _-_, _<_, _≤_};
 ghost use lib.ListN.{length, getD};
-ghost use Rattle.tableau.specs.Layout.{rowAt, fromAt, lastAt, knownAt, truthAt, size};
+ghost use Rattle.tableau.specs.Layout.{coefWords, fromWords, maxRows, maxTaken, rowAt, fromAt, knownAt, truthAt, size};
 ghost use Rattle.tableau.specs.Buffer.{Run, Reads, Added, entryAt, Recorded};
 
 // Words a row; where in a row its provenance starts, and where its last word stands: 2 × basic variable + parity.
@@ -36,8 +36,8 @@ pub fn copy(target: &mut [u64], at: usize, source: &[u64], start: usize, count: 
 
 // The eight words from place `at`.
 pub fn words_at(work: &[u64], at: usize) -> [u64; 8]
-    requires { ⌜ at + 8 ≤ length (now work) ⌝ }
-    ensures { λ r. ⌜ Reads 8 (now (work .entry)) at r ⌝ }
+    requires { ⌜ at + coefWords ≤ length (now work) ⌝ }
+    ensures { λ r. ⌜ Reads coefWords (now (work .entry)) at r ⌝ }
 {
     let mut out = [0u64; 8];
     copy(&mut out, 0, work, at, 8);
@@ -46,24 +46,24 @@ pub fn words_at(work: &[u64], at: usize) -> [u64; 8]
 
 // The coefficients of row r.
 pub fn load(work: &[u64], r: usize) -> [u64; 8]
-    requires { ⌜ (size ≤ length (now work)) × (r < 256) ⌝ }
-    ensures { λ x. ⌜ Reads 8 (now (work .entry)) (rowAt r) x ⌝ }
+    requires { ⌜ (size ≤ length (now work)) × (r < maxRows) ⌝ }
+    ensures { λ x. ⌜ Reads coefWords (now (work .entry)) (rowAt r) x ⌝ }
 {
     words_at(work, ROW * r)
 }
 
 // The coefficients of row r become `row`.
 pub fn store(work: &mut [u64], r: usize, row: [u64; 8])
-    requires { ⌜ (size ≤ length (now work)) × (r < 256) ⌝ }
-    ensures { λ _. ⌜ Run (rowAt r) 8 (λ j. getD row (0 + j) 0) (now (work .entry)) (now (work .exit)) ⌝ }
+    requires { ⌜ (size ≤ length (now work)) × (r < maxRows) ⌝ }
+    ensures { λ _. ⌜ Run (rowAt r) coefWords (λ j. getD row (0 + j) 0) (now (work .entry)) (now (work .exit)) ⌝ }
 {
     copy(work, ROW * r, &row, 0, 8);
 }
 
 // The provenance of row r.
 pub fn load_from(work: &[u64], r: usize) -> [u64; 4]
-    requires { ⌜ (size ≤ length (now work)) × (r < 256) ⌝ }
-    ensures { λ x. ⌜ Reads 4 (now (work .entry)) (fromAt r) x ⌝ }
+    requires { ⌜ (size ≤ length (now work)) × (r < maxRows) ⌝ }
+    ensures { λ x. ⌜ Reads fromWords (now (work .entry)) (fromAt r) x ⌝ }
 {
     let mut out = [0u64; 4];
     copy(&mut out, 0, work, ROW * r + FROM, 4);
@@ -72,15 +72,15 @@ pub fn load_from(work: &[u64], r: usize) -> [u64; 4]
 
 // The provenance of row r becomes `from`.
 pub fn store_from(work: &mut [u64], r: usize, from: [u64; 4])
-    requires { ⌜ (size ≤ length (now work)) × (r < 256) ⌝ }
-    ensures { λ _. ⌜ Run (fromAt r) 4 (λ j. getD from (0 + j) 0) (now (work .entry)) (now (work .exit)) ⌝ }
+    requires { ⌜ (size ≤ length (now work)) × (r < maxRows) ⌝ }
+    ensures { λ _. ⌜ Run (fromAt r) fromWords (λ j. getD from (0 + j) 0) (now (work .entry)) (now (work .exit)) ⌝ }
 {
     copy(work, ROW * r + FROM, &from, 0, 4);
 }
 
 // Row `from` is added into row `to`, which keeps its basic variable.
 pub fn add_row(work: &mut [u64], from: usize, to: usize)
-    requires { ⌜ (size ≤ length (now work)) × (from < 256) × (to < 256) ⌝ }
+    requires { ⌜ (size ≤ length (now work)) × (from < maxRows) × (to < maxRows) ⌝ }
     ensures { λ _. ⌜ Added from to (now (work .entry)) (now (work .exit)) ⌝ }
 {
     let row = sum(load(work, to), load(work, from));
@@ -94,7 +94,7 @@ pub fn add_row(work: &mut [u64], from: usize, to: usize)
 
 // Entry j of the record. This and `set_entry` alone know how the record lies in its words.
 pub fn entry(work: &[u64], j: usize) -> u64
-    requires { ⌜ (size ≤ length (now work)) × (j < 512) ⌝ }
+    requires { ⌜ (size ≤ length (now work)) × (j < maxTaken) ⌝ }
     ensures { λ x. ⌜ x ≡ entryAt (now (work .entry)) j ⌝ }
 {
     work[RECORD + j]
@@ -102,7 +102,7 @@ pub fn entry(work: &[u64], j: usize) -> u64
 
 // Entry j of the record becomes a literal's code.
 pub fn set_entry(work: &mut [u64], j: usize, code: u64)
-    requires { ⌜ (size ≤ length (now work)) × (j < 512) ⌝ }
+    requires { ⌜ (size ≤ length (now work)) × (j < maxTaken) ⌝ }
     ensures { λ _. ⌜ Recorded j code (now (work .entry)) (now (work .exit)) ⌝ }
 {
     work[RECORD + j] = code;
@@ -111,7 +111,7 @@ pub fn set_entry(work: &mut [u64], j: usize, code: u64)
 // Which variables have a value.
 pub fn copy_known(work: &[u64]) -> [u64; 8]
     requires { ⌜ size ≤ length (now work) ⌝ }
-    ensures { λ x. ⌜ Reads 8 (now (work .entry)) knownAt x ⌝ }
+    ensures { λ x. ⌜ Reads coefWords (now (work .entry)) knownAt x ⌝ }
 {
     words_at(work, KNOWN)
 }
@@ -119,7 +119,7 @@ pub fn copy_known(work: &[u64]) -> [u64; 8]
 // Which variables are true.
 pub fn copy_truth(work: &[u64]) -> [u64; 8]
     requires { ⌜ size ≤ length (now work) ⌝ }
-    ensures { λ x. ⌜ Reads 8 (now (work .entry)) truthAt x ⌝ }
+    ensures { λ x. ⌜ Reads coefWords (now (work .entry)) truthAt x ⌝ }
 {
     words_at(work, TRUTH)
 }

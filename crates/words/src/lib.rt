@@ -1,7 +1,7 @@
 // Rows in words of 64 bits, variable 1 in the top bit of the first word: eight words of coefficients, four of provenance.
 ghost use mathlib.Core.Path.{_≡_};
 ghost use mathlib.Core.Bool.{_&&_};
-ghost use Prim.Native.Nat.{ℕ, _+_, _-_, _<_, _≤_};
+ghost use Prim.Native.Nat.{_+_, _-_, _<_, _≤_};
 ghost use lib.ListN.{length};
 ghost use Rattle.gf2.specs.Field.{xsum};
 ghost use Rattle.words.specs.Words.{bitAt, xorWords, ownWord, Lowest};

@@ -15,7 +15,7 @@ lowered-requires c κs = search needs
 returns : tie.Need-returns
 returns c =
     let a = c .before .args in
-    last-calc (a .v) (a .count) (a .p) (c .lowered .result) (omega arith) (omega arith) (c .lowered .ensures)
+    last-calc (a .v) (a .count) (a .p) (c .lowered .result) _ (omega arith) (omega arith) (c .lowered .ensures) (omega arith)
 
 pub last-bits-spec : {M : Type 1} → statement M
 last-bits-spec = tie.close (tie.spec sub-lowered lowered-requires returns)

@@ -1,8 +1,6 @@
 -- `dialogue::line_of_backing` meets its contract.
 -- Assumes nothing.
 use Rattle.dialogue.proofs.Cases.{not-back}
-use Prim.Native.Nat.{ℕ}
-use mathlib.Core.Path.{_≡_}
 use borrow.Author.Needs.{needs}
 use Rattle.dialogue.proofs.line_of_backing.Statement.{statement}
 use Rattle.dialogue.proofs.line_of_backing.Tie as tie

@@ -2,14 +2,14 @@
 -- Assumes nothing.
 use Rattle.dialogue.proofs.Ends.{head-small, end-short, end-read}
 use Rattle.dialogue.specs.Dialogue.{sheetEnd}
-use Rattle.format.specs.Sheet.{nOf, mOf, sizeFor}
+use Rattle.format.specs.Sheet.{mOf, sizeFor}
 use Rattle.format.specs.Bits.{bitsOf, valueOf}
 use lib.ListN.{length, take, drop}
 use denote.Ref.{now}
 use native.Mathlib.Omega.{arith}
 use Prim.Native.Nat.{ℕ, _+_, _*_, _<_, _≤_, min}
 use mathlib.Core.List.{List}
-use mathlib.Core.Path.{_≡_, sym, ap, _∙_}
+use mathlib.Core.Path.{_≡_, ap, _∙_}
 use borrow.Author.Needs.{needs}
 use Rattle.dialogue.proofs.sheet_end.Statement.{statement}
 use Rattle.dialogue.proofs.sheet_end.Tie as tie

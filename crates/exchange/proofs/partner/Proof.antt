@@ -2,14 +2,14 @@
 -- Assumes nothing.
 use mathlib.Core.Bool.{false}
 use mathlib.Core.Logic.{_≢_, ⊎-elim}
-use mathlib.Core.Path.{_≡_, refl}
+use mathlib.Core.Path.{_≡_, refl, _∙_}
 use Prim.Native.Nat.{ℕ, _+_, _*_, _≤_, _<_, _-_}
 use native.Mathlib.Omega.{arith}
 use borrow.Author.Count.{below-more}
 use borrow.Author.Needs.{needs}
 use denote.Ref.{now}
 use Rattle.settle.specs.Values.{lacks}
-use Rattle.settle.proofs.Testing.{open-yes, open-no}
+use Rattle.exchange.proofs.Partners.{other-yes, other-no, other-none}
 use Rattle.exchange.proofs.partner.Statement.{statement}
 use Rattle.exchange.proofs.partner.Tie as tie
 
@@ -49,24 +49,27 @@ mul-y c = search needs
 shared-slice-read-y : tie.Need-shared-slice-read-y Inv-loop μ-loop Inv-scan μ-scan
 shared-slice-read-y c = search needs
 
+own-requires : tie.Need-own-requires Inv-loop μ-loop Inv-scan μ-scan
+own-requires c κs = search needs
+
 loop-holds : tie.Need-loop-holds Inv-loop μ-loop Inv-scan μ-scan
-loop-holds c = let s = c .before .before .before .scan in
+loop-holds c = let s = c .before .before .before .before .before .scan in
     (omega arith, s .inv .1, λ i h. s .inv .2 i (omega arith))
-
-mul-u : tie.Need-mul-u Inv-loop μ-loop Inv-scan μ-scan
-mul-u c = search needs
-
-add-u : tie.Need-add-u Inv-loop μ-loop Inv-scan μ-scan
-add-u c = search needs
-
-add-u-2 : tie.Need-add-u-2 Inv-loop μ-loop Inv-scan μ-scan
-add-u-2 c = search needs
 
 sub-if2 : tie.Need-sub-if2 Inv-loop μ-loop Inv-scan μ-scan
 sub-if2 c = search needs
 
 shr-if2 : tie.Need-shr-if2 Inv-loop μ-loop Inv-scan μ-scan
 shr-if2 c = search needs
+
+mul-found : tie.Need-mul-found Inv-loop μ-loop Inv-scan μ-scan
+mul-found c = search needs
+
+add-found : tie.Need-add-found Inv-loop μ-loop Inv-scan μ-scan
+add-found c = search needs
+
+add-found-2 : tie.Need-add-found-2 Inv-loop μ-loop Inv-scan μ-scan
+add-found-2 c = search needs
 
 add-b : tie.Need-add-b Inv-loop μ-loop Inv-scan μ-scan
 add-b c = search needs
@@ -76,12 +79,12 @@ loop-less c = search needs
 
 loop-again : tie.Need-loop-again Inv-loop μ-loop Inv-scan μ-scan
 loop-again c = let l = c .before .before .loop in
-    let s = c .before .before .before .before .before .before .scan in
-    let a = c .before .before .before .before .before .before .before .args in (
+    let s = c .before .before .before .before .before .before .before .before .scan in
+    let a = c .before .before .before .before .before .before .before .before .before .before .args in (
       omega arith,
       l .inv .1,
       λ i h. below-more (λ j. j ≢ a .v - 1 → lacks (now (a .work)) (a .r) j ≡ false) (s .w * 64 + l .b) (l .inv .2)
-          (λ ne. ⊎-elim (λ z. open-no (now (a .work)) (a .r) (s .w) (l .b) (omega arith) (λ h. omega (arith, h, z .1 .left))) (λ z. absurd (ne (omega (arith, z .left)))) (c .if1 .came)) i (omega arith),
+          (other-no (now (a .work)) (a .r) (a .v - 1) (s .w) (l .b) (omega arith) (rw (← c .before .before .before .before .own .ensures) (λ h. omega (arith, h, c .if2 .left)))) i (omega arith),
     )
 
 add-w : tie.Need-add-w Inv-loop μ-loop Inv-scan μ-scan
@@ -91,21 +94,23 @@ scan-less : tie.Need-scan-less Inv-loop μ-loop Inv-scan μ-scan
 scan-less c = search needs
 
 scan-again : tie.Need-scan-again Inv-loop μ-loop Inv-scan μ-scan
-scan-again c = let l = c .before .loop in
-    (omega arith, l .inv .1, λ i h. l .inv .2 i (omega arith))
+scan-again c = let s = c .before .before .before .before .before .scan in
+    let a = c .before .before .before .before .before .before .before .args in
+    ⊎-elim (λ z. (omega arith, z .3 ∙ z .1 .inv .1, λ i h. z .1 .inv .2 i (omega (arith, z .1 .inv .0, z .2 .left))))
+    (λ z. (omega arith, z .1 ∙ s .inv .1, other-none (now (a .work)) (a .r) (a .v - 1) (s .w) (rw (← c .before .own .ensures) (z .0 .left)) (s .inv .2))) (c .if1 .came)
 
 returns : tie.Need-returns Inv-loop μ-loop Inv-scan μ-scan
 returns c = let s = c .before .scan in
     record { none = λ e i h. s .inv .2 i (omega arith); some = λ i e. absurd (omega arith); least = λ i h. absurd (omega arith) }
 
 returns-2 : tie.Need-returns-2 Inv-loop μ-loop Inv-scan μ-scan
-returns-2 c = let l = c .before .before .before .loop in
-    let s = c .before .before .before .before .before .before .before .scan in
-    let a = c .before .before .before .before .before .before .before .before .args in
-    let ne : s .w * 64 + l .b ≢ a .v - 1 = λ z. c .before .if1 .taken (omega arith) in
+returns-2 c = let l = c .before .before .loop in
+    let s = c .before .before .before .before .before .before .before .before .scan in
+    let a = c .before .before .before .before .before .before .before .before .before .before .args in
+    let y = other-yes (now (a .work)) (a .r) (a .v - 1) (s .w) (l .b) (omega arith) (rw (← c .before .before .before .before .own .ensures) (omega (arith, c .if2 .taken))) in
     record {
       none = λ e. absurd (omega arith);
-      some = λ i e. let q : i ≡ s .w * 64 + l .b = omega arith in rw q (omega arith, ne, open-yes (now (a .work)) (a .r) (s .w) (l .b) (omega arith) (omega (arith, c .if2 .taken)));
+      some = λ i e. let q : i ≡ s .w * 64 + l .b = omega arith in rw q (omega arith, y .0, y .1);
       least = λ i h. l .inv .2 i (omega arith);
     }
 
@@ -125,12 +130,13 @@ partner-spec =
     add-y
     mul-y
     shared-slice-read-y
+    own-requires
     loop-holds
-    mul-u
-    add-u
-    add-u-2
     sub-if2
     shr-if2
+    mul-found
+    add-found
+    add-found-2
     add-b
     loop-less
     loop-again

@@ -1,7 +1,6 @@
 -- `exchange::step` meets its contract.
 -- Assumes nothing.
 use mathlib.Core.Path.{sym, _∙_}
-use native.Mathlib.Numerals.{add-one}
 use borrow.Author.Needs.{needs}
 use Rattle.exchange.specs.Steps.{held, conflict, taken}
 use Rattle.exchange.proofs.Steps.{beq-same, beq-other, refused-still}
@@ -32,11 +31,8 @@ free-up-requires c κs = search needs
 set-entry-requires : tie.Need-set-entry-requires
 set-entry-requires c κs = search needs
 
-add-restart : tie.Need-add-restart
-add-restart c = search needs
-
-restart-requires : tie.Need-restart-requires
-restart-requires c κs = search needs
+follow-requires : tie.Need-follow-requires
+follow-requires c κs = search needs
 
 same-length-3 : tie.Need-same-length-3
 same-length-3 c = search needs
@@ -44,8 +40,7 @@ same-length-3 c = search needs
 returns-3 : tie.Need-returns-3
 returns-3 c = let f = c .before .before .before .before .before .before .before .before .before .before .before .free-up in
     let s = c .before .before .before .before .before .before .set-entry in
-    taken (f .last .0) (s .last .0) _ (sym (c .before .before .before .before .before .before .before .before .before .before .before .before .before .before .bit .ensures) ∙ c .before .before .before .before .before .before .before .before .before .before .before .before .before .if1 .left) (rw (c .before .before .before .before .before .before .before .before .if3 .taken) at (f .ensures)) (f .kept .0) (s .ensures)
-    (rw (add-one (c .before .before .before .before .before .before .before .before .before .before .before .before .before .before .before .before .before .args .d)) at (c .before .before .restart .ensures))
+    taken (f .last .0) (s .last .0) _ (sym (c .before .before .before .before .before .before .before .before .before .before .before .before .before .before .bit .ensures) ∙ c .before .before .before .before .before .before .before .before .before .before .before .before .before .if1 .left) (rw (c .before .before .before .before .before .before .before .before .if3 .taken) at (f .ensures)) (f .kept .0) (s .ensures) (c .before .before .follow .ensures)
 
 same-length-4 : tie.Need-same-length-4
 same-length-4 c = search needs
@@ -65,8 +60,7 @@ step-spec =
     returns-2
     free-up-requires
     set-entry-requires
-    add-restart
-    restart-requires
+    follow-requires
     same-length-3
     returns-3
     same-length-4

@@ -5,6 +5,7 @@ use Prim.Native.Nat.{_<_}
 use native.Mathlib.Omega.{arith}
 use borrow.Author.Needs.{needs}
 use Rattle.opening.specs.Opened.{one-more}
+use Rattle.opening.proofs.Basics.{basics-loaded}
 use Rattle.opening.proofs.Loads.{lowest-read, none-left}
 use Rattle.opening.proofs.open_row.Statement.{statement}
 use Rattle.opening.proofs.open_row.Tie as tie
@@ -13,7 +14,8 @@ load-row-requires : tie.Need-load-row-requires
 load-row-requires c κs = search needs
 
 reduce-requires : tie.Need-reduce-requires
-reduce-requires c κs = search needs
+reduce-requires c κs = let t = c .before .before .before in
+    (search needs, search needs, basics-loaded _ _ _ _ _ (t .load-row .ensures) (t .before .before .before .before .pre .4))
 
 load-requires : tie.Need-load-requires
 load-requires c κs = search needs

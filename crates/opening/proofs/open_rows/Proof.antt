@@ -7,7 +7,7 @@ use native.Mathlib.Omega.{arith}
 use lib.ListN.{length}
 use borrow.Author.Needs.{needs}
 use Rattle.opening.specs.Opened.{Opens, start}
-use Rattle.opening.proofs.Opens.{opens-next}
+use Rattle.opening.proofs.Opens.{opens-next, opens-basics}
 use Rattle.opening.proofs.open_rows.Statement.{statement}
 use Rattle.opening.proofs.open_rows.Tie as tie
 
@@ -21,7 +21,7 @@ loop-holds : tie.Need-loop-holds Inv-loop μ-loop
 loop-holds c = (omega arith, omega arith, start, refl)
 
 open-row-requires : tie.Need-open-row-requires Inv-loop μ-loop
-open-row-requires c κs = search needs
+open-row-requires c κs = let l = c .before .before .loop in let b = opens-basics _ _ (search needs) _ _ _ (omega arith) (l .inv .2) in search needs
 
 same-length : tie.Need-same-length Inv-loop μ-loop
 same-length c = search needs

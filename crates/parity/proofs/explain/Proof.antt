@@ -34,7 +34,7 @@ returns-2 : tie.Need-returns-2
 returns-2 c = let e = c .before .before in let a = e .before .before .before .before .before .args in promise-no-value (a .h) (a .work .now) (a .clause .now) (a .rows .now) (a .v) (passed e) (sym (c .before .bit .ensures) ∙ not-true (c .before .bit .result) (c .if2 .taken))
 
 find-requires : tie.Need-find-requires
-find-requires c κs = let j = judged (c .before .before) in let k = j .0 .kept in let m = j .0 .rows in (j .1, omega arith)
+find-requires c κs = let j = judged (c .before .before) in let k = j .0 .kept in let m = j .0 .rows in (j .1, omega arith, omega arith, omega arith)
 
 returns-3 : tie.Need-returns-3
 returns-3 c = let b = c .before .before .before in

@@ -8,12 +8,12 @@ use lib.ListN.{getD}
 use borrow.Author.Needs.{needs}
 use Rattle.gf2.specs.Field.{xsum}
 use Rattle.words.specs.Words.{bitAt}
-use Rattle.tableau.specs.Layout.{rowAt, lastAt, truthAt}
+use Rattle.tableau.specs.Layout.{maxVars, rowAt, lastAt, truthAt}
 use Rattle.tableau.proofs.Runs.{reads-sum}
 use Rattle.settle.proofs.value.Statement.{statement}
 use Rattle.settle.proofs.value.Tie as tie
 
-sum : (c : tie.After-odd) → c .odd .result ≡ xsum 512 (λ i. bitAt (c .before .before .before .before .args .work .now) (rowAt (c .before .before .before .before .args .r)) i && bitAt (c .before .before .before .before .args .work .now) truthAt i)
+sum : (c : tie.After-odd) → c .odd .result ≡ xsum maxVars (λ i. bitAt (c .before .before .before .before .args .work .now) (rowAt (c .before .before .before .before .args .r)) i && bitAt (c .before .before .before .before .args .work .now) truthAt i)
 sum c = c .odd .ensures ∙ reads-sum 8 (rowAt (c .before .before .before .before .args .r)) truthAt (c .before .before .before .before .args .work .now) _ _ (c .before .before .load .ensures) (c .before .copy-truth .ensures)
 
 load-requires : tie.Need-load-requires

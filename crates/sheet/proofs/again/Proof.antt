@@ -13,8 +13,7 @@ use Rattle.format.specs.Sheet.{sheetBits}
 use Rattle.sheet.proofs.Reader.{read-accepted}
 use Rattle.sheet.proofs.Rewriter.{again-refused, again-short, again-read, same-bytes}
 use Rattle.sheet.specs.Reader.{reading}
-use Rattle.sheet.specs.declared.Reading.the-variants.{Refused, Read}
-use Rattle.sheet.specs.declared.Reading.{Reading}
+use Rattle.sheet.specs.declared.Reading.the-variants.{Read}
 use Rattle.sheet.proofs.again.Statement.{statement}
 use Rattle.sheet.proofs.again.Tie as tie
 

@@ -6,15 +6,13 @@ use Prim.Native.Nat.{ℕ, _+_, _*_, _≤_}
 use native.Mathlib.Omega.{arith}
 use borrow.Author.Needs.{needs}
 use denote.Ref.{now}
-use lib.ListN.{drop, take}
+use lib.ListN.{drop, length, take}
 use Rattle.format.proofs.Accepted.{bits-bound, later, first-1, later-2, later-3, later-1, later-4, padding, later-5, later-6, later-none}
 use Rattle.format.specs.Bits.{bitsOf, valueOf}
 use Rattle.format.specs.Refusals.{refusal}
-use Rattle.format.specs.Sheet.{nOf, mOf, bitsFor}
+use Rattle.format.specs.Sheet.{nOf, mOf, bitsFor, sizeFor}
 use Rattle.sheet.proofs.Reader.{reading-is}
 use Rattle.sheet.specs.Reader.{said, reading}
-use Rattle.sheet.specs.declared.Reading.the-variants.{Refused, Read}
-use Rattle.sheet.specs.declared.Reading.{Reading}
 use Rattle.sheet.proofs.judge.Statement.{statement}
 use Rattle.sheet.proofs.judge.Tie as tie
 
@@ -39,11 +37,16 @@ answered f k e =
 small : (c : tie.Else3) → M (c .before .before) * (N (c .before .before) + 1) ≤ 131328
 small c = bits-bound (N (c .before .before)) (M (c .before .before)) (c .before .if2 .left) (c .if3 .left)
 
+-- what the checks before the padding leave
+whole : (c : tie.Else5) → let f = c .before .before .before .before in (N f ≤ 512) × (M f ≤ 256) × (length (S f) ≡ sizeFor (N f) (M f))
+whole c = (c .before .before .before .if2 .left, c .before .before .if3 .left, omega arith)
+
 -- the padding, as it was read
 pad : (c : tie.After-field3) → let f = c .before .before .before .before .before in c .field3 .result .value ≡ valueOf (drop (bitsFor (N f) (M f)) (bitsOf (S f)))
 pad c =
     let f = c .before .before .before .before .before in
-    c .field3 .ensures .0 ∙ ap valueOf (padding (S f) (N f) (M f) (R f) (omega arith) (omega arith) (omega arith))
+    let w = whole (c .before) in
+    c .field3 .ensures .0 ∙ ap valueOf (padding (S f) (N f) (M f) (R f) (w .0) (w .1) (w .2))
 
 returns : tie.Need-returns
 returns c = ap (λ (k : ℕ). said k (nOf (now (c .before .before .args .s))) (mOf (now (c .before .before .args .s)))) (sym (first-1 (now (c .before .before .args .s)) (c .before .before .args .room) (c .if1 .taken)))
@@ -58,7 +61,7 @@ returns-2 : tie.Need-returns-2
 returns-2 c = let f = c .before in answered f 2 (later-2 (S f) (N f) (M f) (R f) (c .if2 .taken))
 
 returns-3 : tie.Need-returns-3
-returns-3 c = let f = c .before .before in answered f 3 (later-3 (S f) (N f) (M f) (R f) (omega arith) (c .if3 .taken))
+returns-3 c = let f = c .before .before in answered f 3 (later-3 (S f) (N f) (M f) (R f) (c .before .if2 .left) (c .if3 .taken))
 
 add-bits : tie.Need-add-bits
 add-bits c = search needs
@@ -76,10 +79,10 @@ mul-words : tie.Need-mul-words
 mul-words c = search needs
 
 returns-4 : tie.Need-returns-4
-returns-4 c = let f = c .before .before .before in answered f 1 (later-1 (S f) (N f) (M f) (R f) (omega arith) (omega arith) (c .if4 .taken))
+returns-4 c = let f = c .before .before .before in answered f 1 (later-1 (S f) (N f) (M f) (R f) (c .before .before .if2 .left) (c .before .if3 .left) (c .if4 .taken))
 
 returns-5 : tie.Need-returns-5
-returns-5 c = let f = c .before .before .before .before in answered f 4 (later-4 (S f) (N f) (M f) (R f) (omega arith) (omega arith) (c .if5 .taken))
+returns-5 c = let f = c .before .before .before .before in answered f 4 (later-4 (S f) (N f) (M f) (R f) (c .before .before .before .if2 .left) (c .before .before .if3 .left) (c .if5 .taken))
 
 mul-field : tie.Need-mul-field
 mul-field c = omega (arith, small (c .before .before))
@@ -93,17 +96,20 @@ field-requires-3 c κs = omega (arith, small (c .before .before))
 returns-6 : tie.Need-returns-6
 returns-6 c =
     let f = c .before .before .before .before .before .before in
-    answered f 5 (later-5 (S f) (N f) (M f) (R f) (omega arith) (omega arith) (omega arith) (omega (arith, pad (c .before))))
+    let w = whole (c .before .before) in
+    answered f 5 (later-5 (S f) (N f) (M f) (R f) (w .0) (w .1) (w .2) (omega (arith, pad (c .before))))
 
 returns-7 : tie.Need-returns-7
 returns-7 c =
     let f = c .before .before .before .before .before .before .before in
-    answered f 6 (later-6 (S f) (N f) (M f) (R f) (omega arith) (omega arith) (omega arith) (omega (arith, pad (c .before .before))) (omega arith))
+    let w = whole (c .before .before .before) in
+    answered f 6 (later-6 (S f) (N f) (M f) (R f) (w .0) (w .1) (w .2) (omega (arith, pad (c .before .before))) (omega arith))
 
 returns-8 : tie.Need-returns-8
 returns-8 c =
     let f = c .before .before .before .before .before .before .before in
-    answered f 0 (later-none (S f) (N f) (M f) (R f) (omega arith) (omega arith) (omega arith) (omega (arith, pad (c .before .before))) (omega arith))
+    let w = whole (c .before .before .before) in
+    answered f 0 (later-none (S f) (N f) (M f) (R f) (w .0) (w .1) (w .2) (omega (arith, pad (c .before .before))) (omega arith))
 
 pub judge-spec : {M : Type 1} → statement M
 judge-spec =

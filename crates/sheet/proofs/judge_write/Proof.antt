@@ -11,8 +11,6 @@ use lib.ListN.{length}
 use Rattle.format.proofs.Accepted.{bits-bound}
 use Rattle.format.proofs.Clean.{not-true, not-false}
 use Rattle.format.specs.Sheet.{sizeFor, clean}
-use Rattle.sheet.specs.declared.Writing.the-variants.{Refused, Written}
-use Rattle.sheet.specs.declared.Writing.{Writing}
 use Rattle.sheet.proofs.judge_write.Statement.{statement}
 use Rattle.sheet.proofs.judge_write.Tie as tie
 

@@ -10,8 +10,6 @@ use Rattle.format.proofs.Packed.{front-bits, back-bytes}
 use Rattle.format.specs.Bits.{bitsOf}
 use Rattle.format.specs.Sheet.{sizeFor}
 use Rattle.sheet.proofs.Writer.{write-accepted}
-use Rattle.sheet.specs.declared.Writing.the-variants.{Refused, Written}
-use Rattle.sheet.specs.declared.Writing.{Writing}
 use Rattle.sheet.proofs.write.Statement.{statement}
 use Rattle.sheet.proofs.write.Tie as tie
 
