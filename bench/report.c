@@ -42,6 +42,21 @@ static double m4ri_us(const double *us)
     return us[M4RI];
 }
 
+static double assume_us(const double *us)
+{
+    return us[ASSUME];
+}
+
+static double back_us(const double *us)
+{
+    return us[BACK];
+}
+
+static double explain_us(const double *us)
+{
+    return us[EXPLAIN];
+}
+
 static double open_m4ri(const double *us)
 {
     return by(us[OPEN], us[M4RI]);
@@ -82,13 +97,14 @@ static double explain_assume(const double *us)
     return by(us[EXPLAIN], us[ASSUME]);
 }
 
-/* What the plot shows, and the growth tables. */
+/* What the plot and the growth tables show; plain C's decode counts as M4RI's does. */
 static const struct {
     const char *name, *colour;
     double (*time)(const double *us);
-} contestants[] = {{"the module", "#b03060", open_us}, {"plain C", "#4060b0", plain_us}, {"M4RI", "#308050", m4ri_us}};
+} curves[] = {{"open", "#b03060", open_us},     {"plain C", "#4060b0", plain_us}, {"M4RI", "#308050", m4ri_us},
+              {"assume", "#c07030", assume_us}, {"back", "#8050a0", back_us},     {"explain", "#707070", explain_us}};
 
-enum { CONTESTANTS = 3 };
+enum { CURVES = 6, OF_M4RI = 2 };
 
 /* The slope of log time over log size, by least squares: the exponent of the growth. */
 static double growth(const timing *t, double (*time)(const double *us), int over_m)
@@ -147,19 +163,22 @@ static void growth_table(FILE *out, const timing *t, int over_m)
 {
     int i, k;
     fprintf(out, "|   n |   m |");
-    for (k = 0; k < CONTESTANTS; k++)
-        fprintf(out, " %10s |", contestants[k].name);
-    fprintf(out, "\n|----:|----:|-----------:|-----------:|-----------:|\n");
+    for (k = 0; k < CURVES; k++)
+        fprintf(out, " %8s |", curves[k].name);
+    fprintf(out, "\n|----:|----:|");
+    for (k = 0; k < CURVES; k++)
+        fprintf(out, "---------:|");
+    fprintf(out, "\n");
     for (i = 0; i < STEPS; i++) {
         fprintf(out, "| %3zu | %3zu |", t[i].n, t[i].m);
-        for (k = 0; k < CONTESTANTS; k++)
-            cell(out, 10, 1, median(&t[i], contestants[k].time));
+        for (k = 0; k < CURVES; k++)
+            cell(out, 8, 2, median(&t[i], curves[k].time));
         fprintf(out, "\n");
     }
     fprintf(out, "\nTime grows as the power");
-    for (k = 0; k < CONTESTANTS; k++)
-        if (k != 2 || m4ri_there())
-            fprintf(out, "%s %.2f (%s)", k ? "," : "", growth(t, contestants[k].time, over_m), contestants[k].name);
+    for (k = 0; k < CURVES; k++)
+        if (k != OF_M4RI || m4ri_there())
+            fprintf(out, "%s %.2f (%s)", k ? "," : "", growth(t, curves[k].time, over_m), curves[k].name);
     fprintf(out, " of %s.\n", over_m ? "m" : "n");
 }
 
@@ -202,7 +221,7 @@ void write_report(FILE *out, const results *r)
     growth_table(out, r->by_n, 0);
     fprintf(out, "\n## Growth: dense, n = 512, microseconds\n\n");
     growth_table(out, r->by_m, 1);
-    fprintf(out, "\n![Opening by size](benchmark.svg)\n");
+    fprintf(out, "\n![The calls by size](benchmark.svg)\n");
 }
 
 /* ---- plot: two panels, both axes logarithmic ---- */
@@ -241,19 +260,27 @@ static void axes(FILE *out, const panel *p, const char *title)
     }
 }
 
-static void curves(FILE *out, const panel *p, const timing *t, int over_m)
+static void draw(FILE *out, const panel *p, const timing *t, int over_m)
 {
     int i, k;
-    for (k = 0; k < CONTESTANTS; k++) {
-        if (k == 2 && !m4ri_there())
+    for (k = 0; k < CURVES; k++) {
+        if (k == OF_M4RI && !m4ri_there())
             continue;
-        fprintf(out, "<polyline fill=\"none\" stroke=\"%s\" stroke-width=\"2\" points=\"", contestants[k].colour);
+        fprintf(out, "<polyline fill=\"none\" stroke=\"%s\" stroke-width=\"2\" points=\"", curves[k].colour);
         for (i = 0; i < STEPS; i++)
             fprintf(out, "%.1f,%.1f ", x_of(p, (double)(over_m ? t[i].m : t[i].n)),
-                    y_of(p, median(&t[i], contestants[k].time)));
-        fprintf(out, "\"/>\n<text x=\"%.1f\" y=\"%d\" fill=\"%s\">%s</text>\n", p->left + 10, TOP + 18 + 16 * k,
-                contestants[k].colour, contestants[k].name);
+                    y_of(p, median(&t[i], curves[k].time)));
+        fprintf(out, "\"/>\n");
     }
+}
+
+static void legend(FILE *out)
+{
+    int k;
+    for (k = 0; k < CURVES; k++)
+        fprintf(out, "<path d=\"M%d %dh24\" stroke=\"%s\" stroke-width=\"2\"/><text x=\"%d\" y=\"%d\">%s</text>\n",
+                LEFT + 100 * k, TOP + HEIGHT + 46, curves[k].colour, LEFT + 100 * k + 30, TOP + HEIGHT + 50,
+                curves[k].name);
 }
 
 /* Whole powers of ten around all times of both panels. */
@@ -263,8 +290,8 @@ static void bounds(const results *r, double *least, double *most)
     *least = 9;
     *most = -9;
     for (i = 0; i < 2 * STEPS; i++)
-        for (k = 0; k < CONTESTANTS; k++) {
-            double us = median(i < STEPS ? &r->by_n[i] : &r->by_m[i - STEPS], contestants[k].time);
+        for (k = 0; k < CURVES; k++) {
+            double us = median(i < STEPS ? &r->by_n[i] : &r->by_m[i - STEPS], curves[k].time);
             if (us > 0) {
                 *least = fmin(*least, floor(log10(us)));
                 *most = fmax(*most, ceil(log10(us)));
@@ -281,11 +308,12 @@ void write_plot(FILE *out, const results *r)
     fprintf(out,
             "<svg xmlns=\"http://www.w3.org/2000/svg\" width=\"%d\" height=\"%d\" font-family=\"sans-serif\" "
             "font-size=\"12\">\n",
-            LEFT + 2 * WIDTH + GAP + 30, TOP + HEIGHT + 40);
+            LEFT + 2 * WIDTH + GAP + 30, TOP + HEIGHT + 64);
     fprintf(out, "<rect width=\"100%%\" height=\"100%%\" fill=\"white\"/>\n");
-    axes(out, &n, "Opening a dense sheet by n, m = n / 2");
-    curves(out, &n, r->by_n, 0);
-    axes(out, &m, "Opening a dense sheet by m, n = 512");
-    curves(out, &m, r->by_m, 1);
+    axes(out, &n, "Dense sheets by n, m = n / 2");
+    draw(out, &n, r->by_n, 0);
+    axes(out, &m, "Dense sheets by m, n = 512");
+    draw(out, &m, r->by_m, 1);
+    legend(out);
     fprintf(out, "</svg>\n");
 }

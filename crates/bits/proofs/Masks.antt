@@ -5,9 +5,10 @@
 --   head-calc             the first bits of a byte, and a word behind them
 --   last-calc             the first bits of a word, and one bit behind them
 -- Assumes nothing.
-use mathlib.Core.Path.{_≡_, ap, ap₂, _∙_}
+use mathlib.Core.Path.{_≡_, sym, ap, ap₂, _∙_}
 use Prim.Native.Nat.{ℕ, _+_, _-_, _*_, _/_, _%_, _^_, _≤_, _<_}
-use native.Mathlib.Nat.{mod-lt, one-mul}
+use native.Mathlib.Nat.{mod-lt, one-mul, zero-mul}
+use native.Mathlib.Decide.{decLt}
 use native.Mathlib.Omega.{arith}
 use lib.Arith.{digits-lt}
 use lib.Bits.{bitAnd, bitOr, or-shifted, and-mask}
@@ -52,10 +53,19 @@ module _ (y off v : ℕ) (hy : y < 2 ^ 8) (h : off < 8) (hv : v < 2 ^ 64) where
   head-low : v / 2 ^ off < 2 ^ (64 - off)
   head-low = let e : 64 - off + off ≡ 64 = omega arith in shr-lt (64 - off) off (rw e hv)
 
-  pub head-calc : bitOr (y / 2 ^ (8 - off) * 2 ^ (64 - off) % 2 ^ 64) (v / 2 ^ off) ≡ y / 2 ^ (8 - off) * 2 ^ (64 - off) + v / 2 ^ off
-  head-calc =
-      let t : ℕ = y / 2 ^ (8 - off) in
-      ap (λ (n : ℕ). bitOr n (v / 2 ^ off)) (shl-exact off (64 - off) 64 head-top (omega arith)) ∙ or-shifted t (64 - off) (v / 2 ^ off) head-low
+  -- the shift is by 64 - off; without any bits there is nothing to shift
+  head-shift : y / 2 ^ (8 - off) * 2 ^ ((64 - off) % 64) % 2 ^ 64 ≡ y / 2 ^ (8 - off) * 2 ^ (64 - off)
+  head-shift = go (decLt 0 off)
+    where
+      go : Dec (0 < off) → y / 2 ^ (8 - off) * 2 ^ ((64 - off) % 64) % 2 ^ 64 ≡ y / 2 ^ (8 - off) * 2 ^ (64 - off)
+      go (yes l) = let e : (64 - off) % 64 ≡ 64 - off = omega arith in
+          ap (λ (k : ℕ). y / 2 ^ (8 - off) * 2 ^ k % 2 ^ 64) e ∙ shl-exact off (64 - off) 64 head-top (omega arith)
+      go (no l) = let e : off ≡ 0 = omega arith in
+          let z : y / 2 ^ (8 - off) ≡ 0 = let t = rw e at head-top in rw e (omega arith) in
+          ap (λ (k : ℕ). k * 2 ^ ((64 - off) % 64) % 2 ^ 64) z ∙ ap (λ (k : ℕ). k % 2 ^ 64) (zero-mul (2 ^ ((64 - off) % 64))) ∙ sym (ap (λ (k : ℕ). k * 2 ^ (64 - off)) z ∙ zero-mul (2 ^ (64 - off)))
+
+  pub head-calc : bitOr (y / 2 ^ (8 - off) * 2 ^ ((64 - off) % 64) % 2 ^ 64) (v / 2 ^ off) ≡ y / 2 ^ (8 - off) * 2 ^ (64 - off) + v / 2 ^ off
+  head-calc = ap (λ (n : ℕ). bitOr n (v / 2 ^ off)) head-shift ∙ or-shifted (y / 2 ^ (8 - off)) (64 - off) (v / 2 ^ off) head-low
 
 -- what `last_bits` computes
 pub last-calc : (v count p x y : ℕ) → count < 64 → v < 2 ^ 64 → x ≡ v / 2 ^ (64 - count) → y ≡ p % 2 ^ 1 → bitOr (x * 2 ^ 1 % 2 ^ 64) y ≡ v / 2 ^ (64 - count) * 2 ^ 1 + p % 2 ^ 1

@@ -111,12 +111,13 @@ fn put_word(s: &mut [u8], q: usize, v: u64)
     }
 }
 
-// The first off bits of y, and v behind them.
+// The first off bits of y, and v behind them. (Without any, a shift by 64 would be one of 0.)
 fn headed(y: u8, off: usize, v: u64) -> u64
     requires { ⌜ off < 8 ⌝ }
     ensures { λ r. ⌜ r ≡ y / 2 ^ (8 - off) * 2 ^ (64 - off) + v / 2 ^ off ⌝ }
 {
-    raised(wide(y) >> (8 - off), 64 - off) | (v >> off)
+    let first = wide(y) >> (8 - off);
+    (first << ((64 - off) % 64)) | (v >> off)
 }
 
 // Puts the 64 bits of v from bit off of byte q on.

@@ -2,6 +2,7 @@
 use judge::Header;
 use sheet::Reading;
 use tableau::KNOWN;
+use tableau::SIZE;
 use tableau::TRUTH;
 use words::bit;
 ghost use mathlib.Core.Path.{_≡_};
@@ -70,7 +71,7 @@ pub fn back_core(h: Header, work: &mut [u64], depth: usize) -> BackOut
         };
     }
     let kept = h.kept;
-    settle::restart(&mut work[..4096], kept, depth);
+    settle::restart(&mut work[..SIZE], kept, depth);
     BackOut {
         number: 0,
         header: Header {
@@ -116,7 +117,7 @@ pub fn assume(h: Header, work: &mut [u64], literals: &mut [u64], code: usize) ->
     }
     let n = h.n;
     let old = tableau::copy_known(work);
-    let x = offer(&mut work[..4096], n, h.kept, h.depth, code);
+    let x = offer(&mut work[..SIZE], n, h.kept, h.depth, code);
     match x {
         0 => AssumeOut {
             header: h,
@@ -181,7 +182,7 @@ fn judge_open(s: &[u8], store: usize, words: usize, literals: usize, rows: usize
     match a {
         Reading::Refused(c) => Reading::Refused(c),
         Reading::Read { n, m } => {
-            if words < 4096 {
+            if words < SIZE {
                 return Reading::Refused(6);
             }
             if literals < n {
@@ -207,7 +208,7 @@ fn open_all(
     requires { ⌜ (n ≤ 512) × (m ≤ 256) × (9 * m ≤ length (now store)) × (4096 ≤ length (now work)) × (n ≤ length (now literals)) × (m ≤ length (now rows)) ⌝ }
     ensures { λ r. ⌜ RowsOpened n m (now (store .entry)) (now (work .entry)) (now (literals .entry)) (now (rows .entry)) (r .header) (r .answer) (now (work .exit)) (now (literals .exit)) (now (rows .exit)) ⌝ }
 {
-    let x = opening::open_rows(&mut work[..4096], store, m);
+    let x = opening::open_rows(&mut work[..SIZE], store, m);
     match x {
         opening::Opening::Open(k) => {
             let count = lists::list_known(work, n, literals);

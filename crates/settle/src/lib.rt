@@ -1,4 +1,5 @@
 // Values: those of the taken literals, and then what each row gives its basic variable; all anew, or on from one more literal.
+use tableau::CODES;
 use tableau::KNOWN;
 use tableau::LAST;
 use tableau::ROW;
@@ -68,7 +69,7 @@ pub fn ready(work: &[u64], r: usize) -> usize
     if x < 2 {
         return 0;
     }
-    if x >= 1026 {
+    if x >= CODES {
         return 0;
     }
     let u = (x / 2) as usize;
@@ -118,7 +119,7 @@ pub fn put_entry(work: &mut [u64], j: usize)
 {
     let code = entry(work, j);
     if code >= 2 {
-        if code < 1026 {
+        if code < CODES {
             let v = (code / 2) as usize;
             put(work, v, code % 2 == 0);
         }

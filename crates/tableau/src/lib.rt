@@ -7,6 +7,8 @@ ghost use lib.ListN.{length, getD};
 ghost use Rattle.tableau.specs.Layout.{coefWords, fromWords, maxRows, maxTaken, rowAt, fromAt, knownAt, truthAt, size};
 ghost use Rattle.tableau.specs.Buffer.{Run, Reads, Added, entryAt, Recorded};
 
+// Past the code of the last literal.
+pub const CODES: u64 = 1026;
 // Words a row; where in a row its provenance starts, and where its last word stands: 2 × basic variable + parity.
 pub const ROW: usize = 13;
 
