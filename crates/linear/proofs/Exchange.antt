@@ -9,7 +9,7 @@ use mathlib.Core.Logic.{_⊎_, inl, inr, _≢_}
 use Prim.Native.Nat.{ℕ, _<_}
 use Rattle.gf2.specs.Field.{same}
 use Rattle.gf2.specs.Rows.{Var, Row, Holds}
-use Rattle.linear.specs.Systems.{Assumptions, Tableau, NonBasic, Settled, pivot, repoint}
+use Rattle.linear.specs.Systems.{Assumptions, Tableau, NonBasic, Settled, pivot, repoint, Decides}
 use Rattle.gf2.proofs.Field.{xor-false}
 use Rattle.gf2.proofs.Sums.{same-dec, same-refl, same-ne, bool-dec}
 use Rattle.linear.proofs.Pivot.{pivot-own}
@@ -63,7 +63,7 @@ module _ (n k : ℕ) (R : ℕ → Row) (β : ℕ → ℕ) (t : Tableau n k R β)
       (rw (repoint-at β p u) (λ h. absurd (clash _ (h (β p) (t .var p l) (pivot-own n k R p u l (β p) ∙ t .own p l) (λ z. du (sym z))) kp)))
       (λ r x d. rw (repoint-other β p u r d) (go r x d (bool-dec (R r u))))
     where
-      go : (r : ℕ) → r < k → r ≢ p → (R r u ≡ true) ⊎ (R r u ≡ false) → ((v : ℕ) → Var n v → pivot R p u r v ≡ true → v ≢ β r → known v ≡ true) → known (β r) ≡ true
+      go : (r : ℕ) → r < k → r ≢ p → (R r u ≡ true) ⊎ (R r u ≡ false) → Decides n (pivot R p u r) (β r) known → known (β r) ≡ true
       go r x d (inl f) = λ h. absurd (clash _ (h (β p) (t .var p l) (gains r x d f) (λ z. clash _ (t .own r x) (rw z at (t .alone p r l x (λ y. d (sym y)))))) kp)
       go r x d (inr f) = rw (pivot-keeps R p u r f) (s .basic-if r x)
 

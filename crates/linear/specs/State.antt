@@ -13,7 +13,7 @@ use mathlib.Core.Bool.{Bool, true, false, cond}
 use Prim.Native.Nat.{ℕ, zero, suc, _+_, _<_}
 use Rattle.gf2.specs.Field.{same}
 use Rattle.gf2.specs.Rows.{Var, Row, Holds, SameCoefs}
-use Rattle.linear.specs.Systems.{combine, Spanned, Tableau, NonBasic, Settled, Provenance, Literals}
+use Rattle.linear.specs.Systems.{combine, Spanned, Tableau, NonBasic, Settled, Provenance, Literals, Decides}
 
 -- s selects only kept rows before row q
 abbrev pub Earlier : (ℕ → Bool) → ℕ → (ℕ → Bool) → Type 0
@@ -65,8 +65,8 @@ pub record Started (n d : ℕ) (x : ℕ → ℕ) (y : ℕ → Bool) (k : ℕ) (�
 -- settling changes basic variables only, and gives one a value exactly if all the others of its row had one
 pub record Finished (n k : ℕ) (R : ℕ → Row) (β : ℕ → ℕ) (known truth known′ truth′ : ℕ → Bool) : Type 0 where
   pub free : (v : ℕ) → Var n v → NonBasic k β v → (known′ v ≡ known v) × (truth′ v ≡ truth v)
-  pub if : (r : ℕ) → r < k → ((v : ℕ) → Var n v → R r v ≡ true → v ≢ β r → known v ≡ true) → known′ (β r) ≡ true
-  pub only-if : (r : ℕ) → r < k → known′ (β r) ≡ true → (v : ℕ) → Var n v → R r v ≡ true → v ≢ β r → known v ≡ true
+  pub if : (r : ℕ) → r < k → Decides n (R r) (β r) known → known′ (β r) ≡ true
+  pub only-if : (r : ℕ) → r < k → known′ (β r) ≡ true → Decides n (R r) (β r) known
   pub value : (r : ℕ) → r < k → known′ (β r) ≡ true → Holds n (R r) truth′
 
 -- f, but a at d

@@ -3,6 +3,7 @@
 --   Assumptions          `A v b`: variable v is assumed to have the value b; Agrees, Implied, Conflict; And, Literals: one more, and m of them
 --   combine k s R        the sum of the rows below k that s selects; Spanned: a row is such a sum
 --   Tableau n k R β      row r has the basic variable β r, which stands in no other row; NonBasic
+--   Decides n c u known  all variables of the row c but u have a value
 --   Settled              values for some variables, as a tableau under assumptions has them
 --   pivot, repoint       row p is added to each other row that has column u; u is then basic in row p
 --   reduce, extend       a row with each basic variable removed by its row; one row more
@@ -51,6 +52,10 @@ pub record Tableau (n k : ℕ) (R : ℕ → Row) (β : ℕ → ℕ) : Type 0 whe
 abbrev pub NonBasic : ℕ → (ℕ → ℕ) → ℕ → Type 0
 NonBasic k β v = (r : ℕ) → r < k → β r ≢ v
 
+-- all variables of the row c but u have a value, so the row decides u
+abbrev pub Decides : (n : ℕ) → Row → ℕ → (ℕ → Bool) → Type 0
+Decides n c u known = (v : ℕ) → Var n v → c v ≡ true → v ≢ u → known v ≡ true
+
 -- `known v` says whether v has a value, and `truth v` which
 pub record Settled (n k : ℕ) (R : ℕ → Row) (β : ℕ → ℕ) (A : Assumptions) (known truth : ℕ → Bool) : Type 0 where
   -- what is assumed has the value assumed
@@ -58,8 +63,8 @@ pub record Settled (n k : ℕ) (R : ℕ → Row) (β : ℕ → ℕ) (A : Assumpt
   -- a variable that is not basic has a value only if it is assumed
   pub free : (v : ℕ) → Var n v → NonBasic k β v → known v ≡ true → A v (truth v)
   -- a basic variable has a value if all the other variables of its row have one, and only then
-  pub basic-if : (r : ℕ) → r < k → ((v : ℕ) → Var n v → R r v ≡ true → v ≢ β r → known v ≡ true) → known (β r) ≡ true
-  pub basic-only-if : (r : ℕ) → r < k → known (β r) ≡ true → (v : ℕ) → Var n v → R r v ≡ true → v ≢ β r → known v ≡ true
+  pub basic-if : (r : ℕ) → r < k → Decides n (R r) (β r) known → known (β r) ≡ true
+  pub basic-only-if : (r : ℕ) → r < k → known (β r) ≡ true → Decides n (R r) (β r) known
   -- and then it is the value that makes the row hold
   pub basic-value : (r : ℕ) → r < k → known (β r) ≡ true → Holds n (R r) truth
 

@@ -13,7 +13,7 @@ use Rattle.gf2.specs.Rows.{Var, Row, Holds}
 use Rattle.gf2.proofs.Sat.{value-cong-on}
 use Rattle.gf2.proofs.Sums.{same-dec, same-refl, same-ne, bool-dec}
 use Rattle.linear.specs.State.{Taken, Started}
-use Rattle.linear.specs.Systems.{NonBasic}
+use Rattle.linear.specs.Systems.{NonBasic, Decides}
 use Rattle.linear.proofs.Assume.{clash}
 use Rattle.linear.proofs.Exchange.{at-or-not}
 use Rattle.linear.proofs.Settling.{settle-made}
@@ -23,7 +23,7 @@ use Rattle.tableau.specs.Layout.{maxVars, knownAt, truthAt, recordAt}
 use Rattle.tableau.specs.View.{RowsRead, ValuesRead, LitsRead, vals, MadeAt}
 use Rattle.tableau.proofs.Reading.{bit-of, rows-stay, entry-stay, lits-stay}
 use Rattle.settle.specs.Values.{Followed}
-use Rattle.settle.proofs.Putting.{or-right, put-within}
+use Rattle.settle.proofs.Putting.{Within, or-right, put-within}
 use Rattle.settle.proofs.Settles.{follow-finished, follow-rest, follow-within}
 
 module _ (n m : ℕ) (Sheet : ℕ → Row) (kept : ℕ → Bool) (d : ℕ) (x : ℕ → ℕ) (y : ℕ → Bool) (k : ℕ) (ws : List ℕ) (a : MadeAt ws n m Sheet kept d x y k)
@@ -49,7 +49,7 @@ module _ (n m : ℕ) (Sheet : ℕ → Row) (kept : ℕ → Bool) (d : ℕ) (x : 
   old-truth : (i : ℕ) → i < maxVars → bitAt u truthAt i ≡ a .truth (suc i)
   old-truth i l = bit-same ws u truthAt truthAt i (front (truthAt + i / 64) (omega arith)) ∙ a .values .trues i l
 
-  old-within : (i : ℕ) → i < maxVars → bitAt u truthAt i ≡ true → bitAt u knownAt i ≡ true
+  old-within : Within u
   old-within i l e = old-known i l ∙ a .values .within i l (sym (old-truth i l) ∙ e)
 
   away : (z : ℕ) → Var n z → z ≢ v → (known₁ z ≡ a .known z) × (truth₁ z ≡ a .truth z)
@@ -93,13 +93,13 @@ module _ (n m : ℕ) (Sheet : ℕ → Row) (kept : ℕ → Bool) (d : ℕ) (x : 
       off z mz nz e (inr p) = let q = a .made .settled .free z mz nz (before z mz p e) in (q .0, let h = q .1 in omega arith, x-old (q .0) (q .1) ∙ q .2)
 
   -- ---- a row that had given its basic variable a value has not the variable v
-  had : (r : ℕ) → r < k → known₁ (a .β r) ≡ true → ((z : ℕ) → Var n z → a .R r z ≡ true → z ≢ a .β r → known₁ z ≡ true) × Holds n (a .R r) truth₁
+  had : (r : ℕ) → r < k → known₁ (a .β r) ≡ true → Decides n (a .R r) (a .β r) known₁ × Holds n (a .R r) truth₁
   had r l e = (λ z mz h g. still z mz (only z mz h g) .0, value-cong-on n (a .R r) truth₁ (a .truth) (λ z mz h. still z mz (all z mz h (same-dec z (a .β r))) .1) ∙ a .made .settled .basic-value r l own)
     where
       own : a .known (a .β r) ≡ true
       own = before (a .β r) (a .made .built .tableau .var r l) (nb r l) e
 
-      only : (z : ℕ) → Var n z → a .R r z ≡ true → z ≢ a .β r → a .known z ≡ true
+      only : Decides n (a .R r) (a .β r) (a .known)
       only = a .made .settled .basic-only-if r l own
 
       all : (z : ℕ) → Var n z → a .R r z ≡ true → (z ≡ a .β r) ⊎ (z ≢ a .β r) → a .known z ≡ true
@@ -107,7 +107,7 @@ module _ (n m : ℕ) (Sheet : ℕ → Row) (kept : ℕ → Bool) (d : ℕ) (x : 
       all z mz h (inr p) = only z mz h p
 
   -- a row without the variable v has given what it gives
-  done : (r : ℕ) → r < k → a .R r (suc (v - 1)) ≡ false → ((z : ℕ) → Var n z → a .R r z ≡ true → z ≢ a .β r → known₁ z ≡ true) → known₁ (a .β r) ≡ true
+  done : (r : ℕ) → r < k → a .R r (suc (v - 1)) ≡ false → Decides n (a .R r) (a .β r) known₁ → known₁ (a .β r) ≡ true
   done r l e h = still (a .β r) (a .made .built .tableau .var r l) (a .made .settled .basic-if r l (λ z mz g p. before z mz (λ q. clash (a .R r z) g (ap (a .R r) (q ∙ sym mine) ∙ e)) (h z mz g p))) .0
 
   rest₁ : (i : ℕ) → i < knownAt → getD (f .begun) i 0 ≡ getD ws i 0

@@ -1,7 +1,7 @@
 -- ONE BIT OF EIGHT WORDS IS SET, in the words of the variables with a value and of the true ones.
 --   marked, marked-bit    eight words into one of which y has been joined, and their bits
 --   put-done              what put has done
---   put-within            none is true without a value: nor after one more value
+--   Within w              none is true without a value; put-within: nor after one more value
 --   or-some, or-right     what a disjunction of bits says
 -- Assumes nothing.
 use mathlib.Core.Path.{_≡_, refl, sym, ap, ap₂, _∙_}
@@ -84,8 +84,11 @@ put-done ws p b m y big lp em ey =
     rest i (inl h) = getD-set-other w₁ (truthAt + p / 64) i _ 0 (λ (z : i ≡ truthAt + p / 64). absurd (omega arith)) ∙ getD-set-other ws (knownAt + p / 64) i _ 0 (λ (z : i ≡ knownAt + p / 64). absurd (omega arith))
     rest i (inr h) = getD-set-other w₁ (truthAt + p / 64) i _ 0 (λ (z : i ≡ truthAt + p / 64). absurd (omega arith)) ∙ getD-set-other ws (knownAt + p / 64) i _ 0 (λ (z : i ≡ knownAt + p / 64). absurd (omega arith))
 
--- none is true without a value: nor after one more value
-pub put-within : (ws w : List ℕ) (p : ℕ) (b : Bool) → Put p b ws w → ((i : ℕ) → i < maxVars → bitAt ws truthAt i ≡ true → bitAt ws knownAt i ≡ true) → (i : ℕ) → i < maxVars → bitAt w truthAt i ≡ true → bitAt w knownAt i ≡ true
+-- none is true without a value
+abbrev pub Within : List ℕ → Type 0
+Within w = (i : ℕ) → i < maxVars → bitAt w truthAt i ≡ true → bitAt w knownAt i ≡ true
+
+pub put-within : (ws w : List ℕ) (p : ℕ) (b : Bool) → Put p b ws w → Within ws → Within w
 put-within ws w p b pt h i l e = pt .known i l ∙ go (or-some (bitAt ws truthAt i) (same p i && b) (sym (pt .truth i l) ∙ e))
   where
     go : (bitAt ws truthAt i ≡ true) ⊎ (same p i && b ≡ true) → (bitAt ws knownAt i || same p i) ≡ true

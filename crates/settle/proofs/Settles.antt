@@ -18,7 +18,7 @@ use Rattle.gf2.proofs.Field.{xor-out, xor-false, and-left-comm}
 use Rattle.gf2.proofs.Sat.{value-cong, value-cong-on, value-xor, vsum-cong, vsum-one}
 use Rattle.gf2.proofs.Sums.{same-dec, same-refl, same-ne, bool-dec}
 use Rattle.linear.specs.State.{Finished}
-use Rattle.linear.specs.Systems.{Tableau, NonBasic}
+use Rattle.linear.specs.Systems.{Tableau, NonBasic, Decides}
 use Rattle.linear.proofs.Assume.{clash}
 use Rattle.linear.proofs.Exchange.{at-or-not}
 use Rattle.words.specs.Words.{bitAt}
@@ -27,7 +27,7 @@ use Rattle.tableau.specs.Buffer.{basicAt, Chain}
 use Rattle.tableau.specs.Layout.{maxVars, maxRows, rowAt, knownAt, truthAt, recordAt}
 use Rattle.tableau.proofs.Reading.{bit-of, rows-stay}
 use Rattle.tableau.specs.View.{RowsRead, ValuesRead, vals}
-use Rattle.settle.proofs.Putting.{put-within}
+use Rattle.settle.proofs.Putting.{Within, put-within}
 use Rattle.settle.specs.Values.{valueAt, lacks, Can, Put, RowSettled, RowFollowed}
 
 -- the sum of a row under one more value
@@ -37,15 +37,15 @@ one-more n c u b m = vsum-cong n _ _ (λ v l. and-left-comm (c v) (same u v) b) 
 
 module _ (n k : ℕ) (ws : List ℕ) (R : ℕ → Row) (β : ℕ → ℕ) (S : ℕ → ℕ → Bool) (known truth : ℕ → Bool)
     (ln : n ≤ maxVars) (lk : k ≤ maxRows) (t : Tableau n k R β) (rr : RowsRead n k ws R β S) (vr : ValuesRead ws known truth)
-    (kb : (r : ℕ) → r < k → known (β r) ≡ true → ((v : ℕ) → Var n v → R r v ≡ true → v ≢ β r → known v ≡ true) × Holds n (R r) truth) where
+    (kb : (r : ℕ) → r < k → known (β r) ≡ true → Decides n (R r) (β r) known × Holds n (R r) truth) where
   -- the rows below r have been settled
   pub record Settling (r : ℕ) (w : List ℕ) : Type 0 where
     pub rest : (i : ℕ) → (i < knownAt) ⊎ (recordAt ≤ i) → getD w i 0 ≡ getD ws i 0
     pub others : (i : ℕ) → i < maxVars → ((q : ℕ) → q < r → β q ≢ suc i) → (bitAt w knownAt i ≡ known (suc i)) × (bitAt w truthAt i ≡ truth (suc i))
-    pub if : (q : ℕ) → q < r → ((v : ℕ) → Var n v → R q v ≡ true → v ≢ β q → known v ≡ true) → vals w knownAt (β q) ≡ true
-    pub only-if : (q : ℕ) → q < r → vals w knownAt (β q) ≡ true → (v : ℕ) → Var n v → R q v ≡ true → v ≢ β q → known v ≡ true
+    pub if : (q : ℕ) → q < r → Decides n (R q) (β q) known → vals w knownAt (β q) ≡ true
+    pub only-if : (q : ℕ) → q < r → vals w knownAt (β q) ≡ true → Decides n (R q) (β q) known
     pub value : (q : ℕ) → q < r → vals w knownAt (β q) ≡ true → Holds n (R q) (vals w truthAt)
-    pub within : (i : ℕ) → i < maxVars → bitAt w truthAt i ≡ true → bitAt w knownAt i ≡ true
+    pub within : Within w
 
   settling-none : Settling 0 ws
   settling-none =
@@ -106,7 +106,7 @@ module _ (n k : ℕ) (ws : List ℕ) (R : ℕ → Row) (β : ℕ → ℕ) (S : �
     basic-is = rw-read .basic r lr
 
     -- if all the others have a value, the row can give one, or has
-    can : known (β r) ≡ false → ((v : ℕ) → Var n v → R r v ≡ true → v ≢ β r → known v ≡ true) → Can w r
+    can : known (β r) ≡ false → Decides n (R r) (β r) known → Can w r
     can un h = record { low = rw basic-is (t .var r lr .low); high = rw basic-is (let g = t .var r lr .high in omega arith); alone = rw basic-is alone }
       where
         alone : (i : ℕ) → i < maxVars → lacks w r i ≡ same (β r - 1) i
@@ -119,7 +119,7 @@ module _ (n k : ℕ) (ws : List ℕ) (R : ℕ → Row) (β : ℕ → ℕ) (S : �
             go (inr d) (inr x) = rw (x) (sym (same-ne (β r - 1) i (λ z. d (ap suc (sym z) ∙ mine))))
             go (inr d) (inl x) = rw (x, in-row i l x .0 ∙ h (suc i) (in-range i x) x d) (sym (same-ne (β r - 1) i (λ z. d (ap suc (sym z) ∙ mine))))
 
-    complete : (Can w r → ⊥) → ((v : ℕ) → Var n v → R r v ≡ true → v ≢ β r → known v ≡ true) → known (β r) ≡ true
+    complete : (Can w r → ⊥) → Decides n (R r) (β r) known → known (β r) ≡ true
     complete never h = go (bool-dec (known (β r)))
       where
         go : (known (β r) ≡ true) ⊎ (known (β r) ≡ false) → known (β r) ≡ true
@@ -127,18 +127,18 @@ module _ (n k : ℕ) (ws : List ℕ) (R : ℕ → Row) (β : ℕ → ℕ) (S : �
         go (inr e) = absurd (never (can e h))
 
     -- ---- the row gives nothing
-    settling-kept : (((v : ℕ) → Var n v → R r v ≡ true → v ≢ β r → known v ≡ true) → known (β r) ≡ true) → Settling (suc r) w
+    settling-kept : (Decides n (R r) (β r) known → known (β r) ≡ true) → Settling (suc r) w
     settling-kept done =
         record {
           rest = st .rest;
           others = λ i l h. st .others i l (λ q x. h q (omega arith));
-          if = at-or-not (suc r) r (λ q. ((v : ℕ) → Var n v → R q v ≡ true → v ≢ β q → known v ≡ true) → vals w knownAt (β q) ≡ true) (λ h. own-value ∙ done h) (λ q l d. st .if q (omega arith));
-          only-if = at-or-not (suc r) r (λ q. vals w knownAt (β q) ≡ true → (v : ℕ) → Var n v → R q v ≡ true → v ≢ β q → known v ≡ true) (λ h. had h .0) (λ q l d. st .only-if q (omega arith));
+          if = at-or-not (suc r) r (λ q. Decides n (R q) (β q) known → vals w knownAt (β q) ≡ true) (λ h. own-value ∙ done h) (λ q l d. st .if q (omega arith));
+          only-if = at-or-not (suc r) r (λ q. vals w knownAt (β q) ≡ true → Decides n (R q) (β q) known) (λ h. had h .0) (λ q l d. st .only-if q (omega arith));
           value = at-or-not (suc r) r (λ q. vals w knownAt (β q) ≡ true → Holds n (R q) (vals w truthAt)) (λ h. value-cong-on n (R r) (vals w truthAt) truth agrees ∙ had h .1) (λ q l d. st .value q (omega arith));
           within = st .within;
         }
       where
-        had : vals w knownAt (β r) ≡ true → ((v : ℕ) → Var n v → R r v ≡ true → v ≢ β r → known v ≡ true) × Holds n (R r) truth
+        had : vals w knownAt (β r) ≡ true → Decides n (R r) (β r) known × Holds n (R r) truth
         had h = kb r lr (sym own-value ∙ h)
 
         agrees : (v : ℕ) → Var n v → R r v ≡ true → vals w truthAt v ≡ truth v
@@ -185,7 +185,7 @@ module _ (n k : ℕ) (ws : List ℕ) (R : ℕ → Row) (β : ℕ → ℕ) (S : �
           ∙ ap₂ _⊕_ row-sum (one-more n (R r) (β r) (valueAt w r) (t .var r lr) ∙ ap (λ (x : Bool). x && valueAt w r) (t .own r lr) ∙ ap (λ (x : Bool). x ⊕ xsum maxVars (λ i. bitAt w (rowAt r) i && bitAt w truthAt i)) (rw-read .parity r lr))
           ∙ xor-out (xsum maxVars (λ i. bitAt w (rowAt r) i && bitAt w truthAt i)) (R r 0)
 
-      only-here : (v : ℕ) → Var n v → R r v ≡ true → v ≢ β r → known v ≡ true
+      only-here : Decides n (R r) (β r) known
       only-here zero m e d = absurd (not-suc-le-zero (m .low))
       only-here (suc i) m e d =
           let l : i < maxVars = let h = m .high in omega arith in
@@ -204,9 +204,9 @@ module _ (n k : ℕ) (ws : List ℕ) (R : ℕ → Row) (β : ℕ → ℕ) (S : �
           record {
             rest = λ i h. pt .rest i h ∙ st .rest i h;
             others = λ i l h. let a = away i l (λ e. h r (omega arith) (sym e)) in let o = st .others i l (λ q x. h q (omega arith)) in (a .0 ∙ o .0, a .1 ∙ o .1);
-            if = at-or-not (suc r) r (λ q. ((v : ℕ) → Var n v → R q v ≡ true → v ≢ β q → known v ≡ true) → vals w′ knownAt (β q) ≡ true) (λ h. here-known)
+            if = at-or-not (suc r) r (λ q. Decides n (R q) (β q) known → vals w′ knownAt (β q) ≡ true) (λ h. here-known)
                 (λ q l d h. old q l d .0 ∙ st .if q (omega arith) h);
-            only-if = at-or-not (suc r) r (λ q. vals w′ knownAt (β q) ≡ true → (v : ℕ) → Var n v → R q v ≡ true → v ≢ β q → known v ≡ true) (λ h. only-here)
+            only-if = at-or-not (suc r) r (λ q. vals w′ knownAt (β q) ≡ true → Decides n (R q) (β q) known) (λ h. only-here)
                 (λ q l d h. st .only-if q (omega arith) (sym (old q l d .0) ∙ h));
             value = at-or-not (suc r) r (λ q. vals w′ knownAt (β q) ≡ true → Holds n (R q) (vals w′ truthAt)) (λ h. here-holds)
                 (λ q l d h. value-cong-on n (R q) (vals w′ truthAt) (vals w truthAt) (λ v m e. away-vals v m (λ z. clash (R q v) e (ap (R q) z ∙ t .alone r q lr (omega arith) (λ (y : r ≡ q). d (sym y)))) .1)
@@ -240,11 +240,11 @@ module _ (n k : ℕ) (ws : List ℕ) (R : ℕ → Row) (β : ℕ → ℕ) (S : �
     pub settle-rest : (i : ℕ) → (i < knownAt) ⊎ (recordAt ≤ i) → getD w i 0 ≡ getD ws i 0
     settle-rest = settling k (omega arith) w c .rest
 
-    pub settle-within : (i : ℕ) → i < maxVars → bitAt w truthAt i ≡ true → bitAt w knownAt i ≡ true
+    pub settle-within : Within w
     settle-within = settling k (omega arith) w c .within
 
   -- ---- the rows with variable p + 1 have been settled; the others had given what they give
-  module _ (p : ℕ) (lp : p < maxVars) (done : (r : ℕ) → r < k → R r (suc p) ≡ false → ((v : ℕ) → Var n v → R r v ≡ true → v ≢ β r → known v ≡ true) → known (β r) ≡ true) where
+  module _ (p : ℕ) (lp : p < maxVars) (done : (r : ℕ) → r < k → R r (suc p) ≡ false → Decides n (R r) (β r) known → known (β r) ≡ true) where
     following-step : (r : ℕ) → r < k → (w : List ℕ) → Settling r w → (w′ : List ℕ) → RowFollowed p r w w′ → Settling (suc r) w′
     following-step r l w st w′ (inl h) = rw (← h .0) at (settling-kept r l w st (done r l (sym (rw-read r l w st .coefs r l p lp) ∙ h .1)))
     following-step r l w st w′ (inr h) = settling-step r l w st w′ (h .1)
@@ -260,5 +260,5 @@ module _ (n k : ℕ) (ws : List ℕ) (R : ℕ → Row) (β : ℕ → ℕ) (S : �
       pub follow-rest : (i : ℕ) → (i < knownAt) ⊎ (recordAt ≤ i) → getD w i 0 ≡ getD ws i 0
       follow-rest = following k (omega arith) w c .rest
 
-      pub follow-within : (i : ℕ) → i < maxVars → bitAt w truthAt i ≡ true → bitAt w knownAt i ≡ true
+      pub follow-within : Within w
       follow-within = following k (omega arith) w c .within

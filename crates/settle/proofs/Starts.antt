@@ -26,7 +26,7 @@ use Rattle.tableau.specs.Buffer.{Run, Chain, entryAt}
 use Rattle.tableau.specs.Layout.{maxVars, knownAt, truthAt, recordAt}
 use Rattle.tableau.specs.View.{LitsRead, vals}
 use Rattle.tableau.proofs.Reading.{bit-of, entry-stay}
-use Rattle.settle.proofs.Putting.{or-some, or-right, put-within}
+use Rattle.settle.proofs.Putting.{Within, or-some, or-right, put-within}
 use Rattle.settle.specs.Values.{Entry, Put, EntrySet}
 
 cleared : (ws w : List ℕ) → Run knownAt 16 (λ i. 0) ws w → (i : ℕ) → i < maxVars → (bitAt w knownAt i ≡ false) × (bitAt w truthAt i ≡ false)
@@ -43,7 +43,7 @@ module _ (n d k : ℕ) (ws : List ℕ) (x : ℕ → ℕ) (y : ℕ → Bool) (β 
     pub rest : (i : ℕ) → (i < knownAt) ⊎ (recordAt ≤ i) → getD w i 0 ≡ getD ws i 0
     pub on : (q : ℕ) → q < j → (vals w knownAt (x q) ≡ true) × (vals w truthAt (x q) ≡ y q)
     pub off : (i : ℕ) → i < maxVars → bitAt w knownAt i ≡ true → (q : ℕ) × (q < j) × (x q ≡ suc i)
-    pub within : (i : ℕ) → i < maxVars → bitAt w truthAt i ≡ true → bitAt w knownAt i ≡ true
+    pub within : Within w
 
   putting-none : Putting 0 ws
   putting-none =
@@ -132,7 +132,7 @@ module _ (n d k : ℕ) (ws : List ℕ) (x : ℕ → ℕ) (y : ℕ → Bool) (β 
     pub entries-rest : (i : ℕ) → (i < knownAt) ⊎ (recordAt ≤ i) → getD w i 0 ≡ getD ws i 0
     entries-rest = putting d (omega arith) w c .rest
 
-    pub entries-within : (i : ℕ) → i < maxVars → bitAt w truthAt i ≡ true → bitAt w knownAt i ≡ true
+    pub entries-within : Within w
     entries-within = putting d (omega arith) w c .within
 
     pub entries-basic : (v : ℕ) → Var n v → ((j : ℕ) → j < d → x j ≢ v) → vals w knownAt v ≡ false
