@@ -199,8 +199,9 @@ static void aim(FILE *out, const results *r, const char *what, double (*of)(cons
 void write_report(FILE *out, const results *r)
 {
     fprintf(out,
-            "# Benchmark\n\nMade by `bench/run`. One process, seeded systems, medians over %d rounds in each of "
-            "which all take their turn; ratios carry over to other machines, times do not.\n",
+            "# Benchmark\n\nMade by `bench/run`. One process, several seeded systems of each kind in turn, medians "
+            "over %d rounds in "
+            "each of which all contestants run; ratios carry over to other machines, times do not.\n",
             r->systems[0].rounds);
     if (!m4ri_there())
         fprintf(out, "M4RI (libm4ri-dev) is not installed here, so its columns are empty.\n");

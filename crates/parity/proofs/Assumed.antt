@@ -22,7 +22,7 @@ use Rattle.judge.specs.declared.Header.{Header}
 use Rattle.judge.specs.Checks.{assumeChecks, atDepth}
 use Rattle.judge.proofs.Judged.{assume-judged}
 use Rattle.words.specs.Words.{bitAt}
-use Rattle.tableau.specs.Layout.{knownAt, truthAt}
+use Rattle.tableau.specs.Layout.{knownAt, truthAt, size}
 use Rattle.tableau.specs.Buffer.{Reads}
 use Rattle.tableau.specs.View.{MadeAt, vals}
 use Rattle.tableau.proofs.Runs.{reads-bit}
@@ -93,7 +93,7 @@ module _ (h : Header) (work literals : List ℕ) (code : ℕ) where
   }
 
   module _ (j : refusal (assumeChecks h (length work) (length literals) code) ≡ 0) where
-    room : 4096 ≤ length work
+    room : size ≤ length work
     room = assume-judged h (length work) (length literals) code j .1
 
     low : 2 ≤ code
@@ -103,55 +103,55 @@ module _ (h : Header) (work literals : List ℕ) (code : ℕ) where
     high = assume-judged h (length work) (length literals) code j .4
 
     -- the front was not changed: nor was the buffer
-    unchanged : (w : List ℕ) → w ≡ take 4096 work → w ++ drop 4096 work ≡ work
-    unchanged w e = rw e (take-append-drop 4096 work)
+    unchanged : (w : List ℕ) → w ≡ take size work → w ++ drop size work ≡ work
+    unchanged w e = rw e (take-append-drop size work)
 
     not-refused : (c : ℕ) → refusal (assumeChecks h (length work) (length literals) code) ≡ suc c → ⊥
     not-refused c e = absurd (omega arith)
 
-    module _ (w : List ℕ) (x : ℕ) (o : Offered (h .n) (h .kept) (h .depth) code (take 4096 work) w x) where
-      pub promise-held : x ≡ 0 → AssumePromise h work literals code h Held (w ++ drop 4096 work) literals
+    module _ (w : List ℕ) (x : ℕ) (o : Offered (h .n) (h .kept) (h .depth) code (take size work) w x) where
+      pub promise-held : x ≡ 0 → AssumePromise h work literals code h Held (w ++ drop size work) literals
       promise-held z =
-          let f = held-facts (h .n) (h .kept) (h .depth) code (take 4096 work) w x o z in
+          let f = held-facts (h .n) (h .kept) (h .depth) code (take size work) w x o z in
           subst (λ (u : List ℕ). AssumePromise h work literals code h Held u literals) (sym (unchanged w (f .0)))
           (record { refused = λ c e. absurd (not-refused c e); leaves = λ q. (refl, refl, refl); right = λ q p s. record { said = held; says = refl; right = offered-held h work p s code low high (f .1) (f .2); stands = s } })
 
-      pub promise-conflict : x ≡ 1 → AssumePromise h work literals code h (Conflict (code / 2)) (w ++ drop 4096 work) literals
+      pub promise-conflict : x ≡ 1 → AssumePromise h work literals code h (Conflict (code / 2)) (w ++ drop size work) literals
       promise-conflict z =
-          let f = conflict-facts (h .n) (h .kept) (h .depth) code (take 4096 work) w x o z in
+          let f = conflict-facts (h .n) (h .kept) (h .depth) code (take size work) w x o z in
           subst (λ (u : List ℕ). AssumePromise h work literals code h (Conflict (code / 2)) u literals) (sym (unchanged w (f .0)))
           (record { refused = λ c e. absurd (not-refused c e); leaves = λ q. (refl, refl, refl, refl); right = λ q p s. record { said = conflict; says = refl; right = offered-conflict h work p s code low high (f .1) (f .2); stands = s } })
 
-      pub promise-stuck : x ≢ 0 → x ≢ 1 → x ≢ 2 → AssumePromise h work literals code h (AssumeRefused 12) (w ++ drop 4096 work) literals
+      pub promise-stuck : x ≢ 0 → x ≢ 1 → x ≢ 2 → AssumePromise h work literals code h (AssumeRefused 12) (w ++ drop size work) literals
       promise-stuck a b c =
-          let f = stuck-facts (h .n) (h .kept) (h .depth) code (take 4096 work) w x o a b c in
+          let f = stuck-facts (h .n) (h .kept) (h .depth) code (take size work) w x o a b c in
           subst (λ (u : List ℕ). AssumePromise h work literals code h (AssumeRefused 12) u literals) (sym (unchanged w (f .0)))
           (record { refused = λ d e. absurd (not-refused d e); leaves = λ q. (refl, refl, refl, refl); right = λ q p s. absurd (never p s (f .1)) })
         where
           none : (p : Position) (s : Stands h work p) (a : ℕ)
-              → Outcome (h .n) (h .m) (s .Sheet) (s .kept) (h .depth) (s .var) (s .val) (h .kept) (variable code) (value code) (take 4096 work) a → a ≡ 12 → ⊥
+              → Outcome (h .n) (h .m) (s .Sheet) (s .kept) (h .depth) (s .var) (s .val) (h .kept) (variable code) (value code) (take size work) a → a ≡ 12 → ⊥
           none p s a (was-held e f) z = absurd (omega arith)
           none p s a (was-conflict e f) z = absurd (omega arith)
           none p s a (was-taken e f g) z = absurd (omega arith)
 
-          never : (p : Position) (s : Stands h work p) → ((h .depth < h .n) × Stepped (h .kept) (h .depth) code (take 4096 work) (take 4096 work) 12) ⊎ ((h .n ≤ h .depth) × (bitAt (take 4096 work) knownAt (variable code - 1) ≡ false)) → ⊥
+          never : (p : Position) (s : Stands h work p) → ((h .depth < h .n) × Stepped (h .kept) (h .depth) code (take size work) (take size work) 12) ⊎ ((h .n ≤ h .depth) × (bitAt (take size work) knownAt (variable code - 1) ≡ false)) → ⊥
           never p s (inl g) =
               none p s 12
-              (step-made (h .n) (h .m) (s .Sheet) (s .kept) (h .depth) (s .var) (s .val) (h .kept) (take 4096 work) code (of-range (h .n) code low (let u = high in omega arith)) (s .made)
-              (take 4096 work) 12 refl (g .1)) refl
+              (step-made (h .n) (h .m) (s .Sheet) (s .kept) (h .depth) (s .var) (s .val) (h .kept) (take size work) code (of-range (h .n) code low (let u = high in omega arith)) (s .made)
+              (take size work) 12 refl (g .1)) refl
           never p s (inr g) = offered-full h work p s code low high (g .0) (g .1)
 
       -- the literals listed are those that the definition asks for
-      module _ (old : List ℕ) (reads : Reads 8 work knownAt old) (e : length w ≡ length (take 4096 work)) (literals′ : List ℕ) (count : ℕ)
-          (l : Listed (h .n) 0 (scanned (h .n) (isNew (w ++ drop 4096 work) old (code / 2)) (vals (w ++ drop 4096 work) truthAt)) literals literals′ count) where
-        after-bit : (off : ℕ) → off + 8 ≤ 4096 → (i : ℕ) → i < 512 → bitAt (w ++ drop 4096 work) off i ≡ bitAt w off i
+      module _ (old : List ℕ) (reads : Reads 8 work knownAt old) (e : length w ≡ length (take size work)) (literals′ : List ℕ) (count : ℕ)
+          (l : Listed (h .n) 0 (scanned (h .n) (isNew (w ++ drop size work) old (code / 2)) (vals (w ++ drop size work) truthAt)) literals literals′ count) where
+        after-bit : (off : ℕ) → off + 8 ≤ size → (i : ℕ) → i < 512 → bitAt (w ++ drop size work) off i ≡ bitAt w off i
         after-bit off b i c =
-            sym (front-bit (w ++ drop 4096 work) (let u = replaced-worked work w room e .long in let v = room in omega arith) off b i c) ∙ ap (λ (z : List ℕ). bitAt z off i) (replaced-front work w room e)
+            sym (front-bit (w ++ drop size work) (let u = replaced-worked work w room e .long in let v = room in omega arith) off b i c) ∙ ap (λ (z : List ℕ). bitAt z off i) (replaced-front work w room e)
 
         made-after : (p : Position) (s : Stands h work p) → x ≡ 2 → MadeAt w (h .n) (h .m) (s .Sheet) (s .kept) (suc (h .depth)) (with-at (s .var) (h .depth) (variable code)) (with-bool (s .val) (h .depth) (value code)) (h .kept)
         made-after p s z =
-            let f = taken-facts (h .n) (h .kept) (h .depth) code (take 4096 work) w x o z in
-            pick (step-made (h .n) (h .m) (s .Sheet) (s .kept) (h .depth) (s .var) (s .val) (h .kept) (take 4096 work) code (of-range (h .n) code low (let u = high in omega arith)) (s .made)
+            let f = taken-facts (h .n) (h .kept) (h .depth) code (take size work) w x o z in
+            pick (step-made (h .n) (h .m) (s .Sheet) (s .kept) (h .depth) (s .var) (s .val) (h .kept) (take size work) code (of-range (h .n) code low (let u = high in omega arith)) (s .made)
             w x e (f .2)) z
           where
             pick : {a : ℕ} → Outcome (h .n) (h .m) (s .Sheet) (s .kept) (h .depth) (s .var) (s .val) (h .kept) (variable code) (value code) w a → a ≡ 2
@@ -160,21 +160,21 @@ module _ (h : Header) (work literals : List ℕ) (code : ℕ) where
             pick (was-conflict q r) z = absurd (omega arith)
             pick (was-taken q r t) z = t
 
-        pub promise-taken : x ≡ 2 → AssumePromise h work literals code (atDepth h (h .depth + 1)) (Taken count) (w ++ drop 4096 work) literals′
+        pub promise-taken : x ≡ 2 → AssumePromise h work literals code (atDepth h (h .depth + 1)) (Taken count) (w ++ drop size work) literals′
         promise-taken z = record {
           refused = λ c q. absurd (not-refused c q);
           leaves = λ q. (refl, facts .0, l .few, replaced-worked work w room e, listed-used (h .n) _ literals literals′ count l);
           right = λ q p s. record { said = implied (take count literals′); says = refl; right = answer p s; stands = taken-stands h work p s code low high w e room (facts .0) (made-after p s z) (facts .1) (take count literals′) (answer p s) };
         }
           where
-            facts : (h .depth < h .n) × (bitAt (take 4096 work) knownAt (variable code - 1) ≡ false) × Stepped (h .kept) (h .depth) code (take 4096 work) w x
-            facts = taken-facts (h .n) (h .kept) (h .depth) code (take 4096 work) w x o z
+            facts : (h .depth < h .n) × (bitAt (take size work) knownAt (variable code - 1) ≡ false) × Stepped (h .kept) (h .depth) code (take size work) w x
+            facts = taken-facts (h .n) (h .kept) (h .depth) code (take size work) w x o z
 
             fits : h .n ≤ length literals
             fits = assume-judged h (length work) (length literals) code j .2
 
             test : (p : Position) (s : Stands h work p) (v : ℕ) → Var (h .n) v
-                → isNew (w ++ drop 4096 work) old (code / 2) v ≡ made-after p s z .known v && (not (s .made .known v) && not (same (variable code) v))
+                → isNew (w ++ drop size work) old (code / 2) v ≡ made-after p s z .known v && (not (s .made .known v) && not (same (variable code) v))
             test p s zero mv = let a = mv .low in absurd (omega arith)
             test p s (suc i) mv =
                 let b : i < 512 = let a = mv .high in let c = s .fit .vars in omega arith in
@@ -183,7 +183,7 @@ module _ (h : Header) (work literals : List ℕ) (code : ℕ) where
                 (reads-bit 8 knownAt work old reads i (omega arith) ∙ sym (front-bit work room knownAt (omega arith) i b) ∙ s .made .values .knows i b)
                 (same-comm (suc i) (code / 2))
 
-            sign : (p : Position) (s : Stands h work p) (v : ℕ) → Var (h .n) v → vals (w ++ drop 4096 work) truthAt v ≡ made-after p s z .truth v
+            sign : (p : Position) (s : Stands h work p) (v : ℕ) → Var (h .n) v → vals (w ++ drop size work) truthAt v ≡ made-after p s z .truth v
             sign p s zero mv = let a = mv .low in absurd (omega arith)
             sign p s (suc i) mv =
                 let b : i < 512 = let a = mv .high in let c = s .fit .vars in omega arith in
@@ -192,4 +192,4 @@ module _ (h : Header) (work literals : List ℕ) (code : ℕ) where
             answer : (p : Position) (s : Stands h work p) → AnswersAssume p code (implied (take count literals′))
             answer p s =
                 subst (λ (ls : List ℕ). AnswersAssume p code (implied ls)) (sym (listed-take (h .n) _ literals literals′ count l fits))
-                (taken-answer h work p s code low high w e room (facts .0) (made-after p s z) (facts .1) (isNew (w ++ drop 4096 work) old (code / 2)) (vals (w ++ drop 4096 work) truthAt) (test p s) (sign p s))
+                (taken-answer h work p s code low high w e room (facts .0) (made-after p s z) (facts .1) (isNew (w ++ drop size work) old (code / 2)) (vals (w ++ drop size work) truthAt) (test p s) (sign p s))

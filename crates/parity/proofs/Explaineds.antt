@@ -23,7 +23,7 @@ use Rattle.judge.specs.declared.Header.{Header}
 use Rattle.judge.specs.Checks.{explainChecks}
 use Rattle.judge.proofs.Judged.{explain-judged}
 use Rattle.words.specs.Words.{bitAt}
-use Rattle.tableau.specs.Layout.{rowAt, fromAt, lastAt, knownAt, truthAt}
+use Rattle.tableau.specs.Layout.{rowAt, fromAt, lastAt, knownAt, truthAt, size}
 use Rattle.tableau.specs.Buffer.{basicAt}
 use Rattle.tableau.specs.View.{vals}
 use Rattle.tableau.proofs.Reading.{bit-of}
@@ -47,7 +47,7 @@ module _ (h : Header) (work clause rows : List ℕ) (v : ℕ) where
   }
 
   module _ (j : refusal (explainChecks h (length work) (length clause) (length rows) v) ≡ 0) where
-    room : 4096 ≤ length work
+    room : size ≤ length work
     room = explain-judged h (length work) (length clause) (length rows) v j .1
 
     mine : Var (h .n) v
@@ -56,12 +56,12 @@ module _ (h : Header) (work clause rows : List ℕ) (v : ℕ) where
     not-refused : (c : ℕ) → refusal (explainChecks h (length work) (length clause) (length rows) v) ≡ suc c → ⊥
     not-refused c e = absurd (omega arith)
 
-    front-basic : (r : ℕ) → r < 256 → basicAt (take 4096 work) r ≡ basicAt work r
-    front-basic r l = ap (λ (z : ℕ). z / 2) (getD-take 4096 work (lastAt r) 0 (omega arith))
+    front-basic : (r : ℕ) → r < 256 → basicAt (take size work) r ≡ basicAt work r
+    front-basic r l = ap (λ (z : ℕ). z / 2) (getD-take size work (lastAt r) 0 (omega arith))
 
     module _ (p : Position) (s : Stands h work p) where
       abbrev front : List ℕ
-      front = take 4096 work
+      front = take size work
 
       abbrev here : Position
       here = position (h .n) (h .m) (s .Sheet) (h .depth) (s .var) (s .val)

@@ -13,11 +13,12 @@ use Rattle.judge.specs.declared.Header.{Header}
 use Rattle.judge.specs.Checks.{atDepth}
 use Rattle.settle.specs.Values.{Restarted}
 use Rattle.settle.proofs.Restarts.{back-step}
+use Rattle.tableau.specs.Layout.{size}
 use Rattle.parity.specs.Promises.{Stands}
 use Rattle.parity.proofs.Part.{replaced-front}
 
-pub back-stands : (h : Header) (work ws : List ℕ) (p : Position) → Stands h work p → 4096 ≤ length work → length ws ≡ length (take 4096 work) → (d : ℕ) → d ≤ h .depth
-    → Restarted (h .kept) d (take 4096 work) ws → Stands (atDepth h d) (ws ++ drop 4096 work) (withdrawn p d)
+pub back-stands : (h : Header) (work ws : List ℕ) (p : Position) → Stands h work p → size ≤ length work → length ws ≡ length (take size work) → (d : ℕ) → d ≤ h .depth
+    → Restarted (h .kept) d (take size work) ws → Stands (atDepth h d) (ws ++ drop size work) (withdrawn p d)
 back-stands h work ws p s l e d ld re = record {
   Sheet = s .Sheet;
   kept = s .kept;
@@ -25,7 +26,7 @@ back-stands h work ws p s l e d ld re = record {
   val = s .val;
   fit = record { is-open = s .fit .is-open; vars = s .fit .vars; rows = s .fit .rows; kept = s .fit .kept; depth = let a = s .fit .depth in omega arith };
   is-kept = s .is-kept;
-  made = rw (replaced-front work ws l e) (back-step (h .n) (h .m) (s .Sheet) (s .kept) (h .depth) (s .var) (s .val) (h .kept) (take 4096 work) ws e (s .made) d ld re);
+  made = rw (replaced-front work ws l e) (back-step (h .n) (h .m) (s .Sheet) (s .kept) (h .depth) (s .var) (s .val) (h .kept) (take size work) ws e (s .made) d ld re);
   here = ap (λ (q : Position). withdrawn q d) (s .here) ∙ ap (λ (ls : List ℕ). record { n = h .n; rows = numbered (h .m) (s .Sheet); taken = ls }) (codes-fewer d (h .depth) (s .var) (s .val) ld);
   reached = withdrawn-reached p (s .reached) d;
 }

@@ -13,6 +13,7 @@ use Rattle.format.proofs.Accepted.{Accepted}
 use Rattle.sheet.specs.declared.Reading.the-variants.{Refused, Read}
 use Rattle.sheet.specs.Reader.{number, said, reading}
 use Rattle.sheet.proofs.Reader.{number-reading, read-accepted, read-refused}
+use Rattle.tableau.specs.Layout.{size}
 use Rattle.parity.specs.Promises.{openOwn, openChecks}
 use Rattle.parity.specs.Openings.{openReading}
 
@@ -29,14 +30,14 @@ module _ (s : List ℕ) (store words literals rows : ℕ) where
     reached : refusal (openChecks s store words literals rows) ≡ refusal (openOwn s words literals rows)
     reached = append-none (reader s store) (openOwn s words literals rows) refl (sym (number-reading s store) ∙ ap number e)
 
-    pub short-work : words < 4096 → Refused 6 ≡ openReading s store words literals rows
+    pub short-work : words < size → Refused 6 ≡ openReading s store words literals rows
     short-work l = rw (reached, lt-ltb words 4096 l)
 
-    pub short-literals : 4096 ≤ words → literals < n → Refused 7 ≡ openReading s store words literals rows
+    pub short-literals : size ≤ words → literals < n → Refused 7 ≡ openReading s store words literals rows
     short-literals l a = rw (reached, le-ltb words 4096 l, ← k .n-is, lt-ltb literals n a)
 
-    pub short-rows : 4096 ≤ words → n ≤ literals → rows < m → Refused 7 ≡ openReading s store words literals rows
+    pub short-rows : size ≤ words → n ≤ literals → rows < m → Refused 7 ≡ openReading s store words literals rows
     short-rows l a b = rw (reached, le-ltb words 4096 l, ← k .n-is, ← k .m-is, le-ltb literals n a, lt-ltb rows m b)
 
-    pub all-passed : 4096 ≤ words → n ≤ literals → m ≤ rows → Read n m ≡ openReading s store words literals rows
+    pub all-passed : size ≤ words → n ≤ literals → m ≤ rows → Read n m ≡ openReading s store words literals rows
     all-passed l a b = rw (reached, le-ltb words 4096 l, ← k .n-is, ← k .m-is, le-ltb literals n a, le-ltb rows m b)

@@ -30,7 +30,7 @@ use Rattle.linear.proofs.Tableaux.{basic-dec}
 use Rattle.judge.specs.declared.Header.{Header}
 use Rattle.judge.specs.Checks.{atDepth}
 use Rattle.words.specs.Words.{bitAt}
-use Rattle.tableau.specs.Layout.{knownAt, truthAt}
+use Rattle.tableau.specs.Layout.{knownAt, truthAt, size}
 use Rattle.tableau.specs.View.{MadeAt}
 use Rattle.exchange.proofs.Steps.{known-bit, truth-bit}
 use Rattle.parity.specs.Promises.{Stands}
@@ -61,7 +61,7 @@ position-more n m Sheet d x y l =
 
 module _ (h : Header) (work : List ℕ) (p : Position) (s : Stands h work p) (l : ℕ) (lo : 2 ≤ l) (hi : l ≤ 2 * h .n + 1) where
   abbrev front : List ℕ
-  front = take 4096 work
+  front = take size work
 
   abbrev here : Position
   here = position (h .n) (h .m) (s .Sheet) (h .depth) (s .var) (s .val)
@@ -116,9 +116,9 @@ module _ (h : Header) (work : List ℕ) (p : Position) (s : Stands h work p) (l 
           last = rw (same-refl (h .depth))
 
   -- ---- the literal is taken
-  module _ (w : List ℕ) (e : length w ≡ length (take 4096 work)) (long : 4096 ≤ length work) (deep : h .depth < h .n)
+  module _ (w : List ℕ) (e : length w ≡ length (take size work)) (long : size ≤ length work) (deep : h .depth < h .n)
       (made : MadeAt w (h .n) (h .m) (s .Sheet) (s .kept) (suc (h .depth)) (with-at (s .var) (h .depth) (variable l)) (with-bool (s .val) (h .depth) (value l)) (h .kept))
-      (unknown : bitAt (take 4096 work) knownAt (variable l - 1) ≡ false) where
+      (unknown : bitAt (take size work) knownAt (variable l - 1) ≡ false) where
     more : position (h .n) (h .m) (s .Sheet) (suc (h .depth)) (with-at (s .var) (h .depth) (variable l)) (with-bool (s .val) (h .depth) (value l)) ≡ assumed here l
     more = position-more (h .n) (h .m) (s .Sheet) (h .depth) (s .var) (s .val) l
 
@@ -140,7 +140,7 @@ module _ (h : Header) (work : List ℕ) (p : Position) (s : Stands h work p) (l 
         subst (λ (q : Position). AnswersAssume q l (implied (scanned (h .n) t b))) (sym (s .here))
         (subst (λ (ls : List ℕ). AnswersAssume here l (implied ls)) (sym (scanned-same (h .n) t (λ v. made .known v && (not (s .made .known v) && not (same (variable l) v))) b (made .truth) f g)) (fr .0, fr .1, nl))
 
-    pub taken-stands : (list : List ℕ) → AnswersAssume p l (implied list) → Stands (atDepth h (h .depth + 1)) (w ++ drop 4096 work) (assumed p l)
+    pub taken-stands : (list : List ℕ) → AnswersAssume p l (implied list) → Stands (atDepth h (h .depth + 1)) (w ++ drop size work) (assumed p l)
     taken-stands list answers = record {
       Sheet = s .Sheet;
       kept = s .kept;

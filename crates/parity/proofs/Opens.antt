@@ -42,7 +42,7 @@ use Rattle.sheet.specs.declared.Reading.{Reading}
 use Rattle.sheet.specs.declared.Reading.the-variants.{Refused, Read}
 use Rattle.sheet.specs.Reader.{said, reading, Reads}
 use Rattle.sheet.proofs.Store.{store-read}
-use Rattle.tableau.specs.Layout.{fromAt, knownAt, truthAt}
+use Rattle.tableau.specs.Layout.{fromAt, knownAt, truthAt, size}
 use Rattle.tableau.specs.View.{MadeAt, vals}
 use Rattle.lists.specs.Listing.{numbers, Listed}
 use Rattle.opening.specs.Opened.{AllIn, Stopped}
@@ -87,7 +87,7 @@ module _ (s : List ℕ) (store words literals rows : ℕ) (none : refusal (openC
       go zero e = e
       go (suc c) e = let f : refusal (openChecks s store words literals rows) ≡ suc c = append-some (reader s store) (openOwn s words literals rows) c e in absurd (omega (arith, f, none))
 
-  pub open-judged : Accepted s store (nOf s) (mOf s) × (4096 ≤ words) × (nOf s ≤ literals) × (mOf s ≤ rows)
+  pub open-judged : Accepted s store (nOf s) (mOf s) × (size ≤ words) × (nOf s ≤ literals) × (mOf s ≤ rows)
   open-judged =
       let a = refusing.accepted (openChecks s store words literals rows) refl none in
       let b = none-either (ltb literals (nOf s)) (ltb rows (mOf s)) (a .1 .1 .1 .1 .1 .1 .1 .1 .0) in
@@ -113,7 +113,7 @@ module _ (old : Header) (s store work literals rows : List ℕ) where
     is-kept : Kept (nOf s) (mOf s) Sheet kept
     is-kept = kept-exists (nOf s) (mOf s) Sheet
 
-    judged : Accepted s (length store) (nOf s) (mOf s) × (4096 ≤ length work) × (nOf s ≤ length literals) × (mOf s ≤ length rows)
+    judged : Accepted s (length store) (nOf s) (mOf s) × (size ≤ length work) × (nOf s ≤ length literals) × (mOf s ≤ length rows)
     judged = open-judged s (length store) (length work) (length literals) (length rows) none
 
     rows-read : StoreRead (nOf s) (mOf s) store′ Sheet
@@ -126,15 +126,15 @@ module _ (old : Header) (s store work literals rows : List ℕ) where
     not-refused c e = absurd (omega (arith, none, e))
 
     -- the front's bits, in the whole buffer
-    whole-bit : (ws : List ℕ) → length ws ≡ length (take 4096 work) → (off : ℕ) → off + 8 ≤ 4096 → (i : ℕ) → i < 512 → bitAt (ws ++ drop 4096 work) off i ≡ bitAt ws off i
+    whole-bit : (ws : List ℕ) → length ws ≡ length (take size work) → (off : ℕ) → off + 8 ≤ size → (i : ℕ) → i < 512 → bitAt (ws ++ drop size work) off i ≡ bitAt ws off i
     whole-bit ws e off b i c =
-        sym (front-bit (ws ++ drop 4096 work) (let u = replaced-worked work ws (judged .1) e .long in let v = judged .1 in omega arith) off b i c) ∙ ap (λ (z : List ℕ). bitAt z off i) (replaced-front work ws (judged .1) e)
+        sym (front-bit (ws ++ drop size work) (let u = replaced-worked work ws (judged .1) e .long in let v = judged .1 in omega arith) off b i c) ∙ ap (λ (z : List ℕ). bitAt z off i) (replaced-front work ws (judged .1) e)
 
     -- ---- all rows went in
-    module _ (k : ℕ) (ws : List ℕ) (x : ℕ) (literals′ : List ℕ) (e : length ws ≡ length (take 4096 work)) (a : AllIn (mOf s) store′ (take 4096 work) k ws)
-        (l : Listed (nOf s) 0 (scanned (nOf s) (vals (ws ++ drop 4096 work) knownAt) (vals (ws ++ drop 4096 work) truthAt)) literals literals′ x) where
+    module _ (k : ℕ) (ws : List ℕ) (x : ℕ) (literals′ : List ℕ) (e : length ws ≡ length (take size work)) (a : AllIn (mOf s) store′ (take size work) k ws)
+        (l : Listed (nOf s) 0 (scanned (nOf s) (vals (ws ++ drop size work) knownAt) (vals (ws ++ drop size work) truthAt)) literals literals′ x) where
       made : MadeAt ws (nOf s) (mOf s) Sheet kept 0 (λ j. 0) (λ j. false) k
-      made = open-made (nOf s) (mOf s) Sheet kept is-kept store′ rows-read (judged .0 .n-small) (judged .0 .m-small) (take 4096 work) (let z = front-long work (judged .1) in omega arith) k ws e a
+      made = open-made (nOf s) (mOf s) Sheet kept is-kept store′ rows-read (judged .0 .n-small) (judged .0 .m-small) (take size work) (let z = front-long work (judged .1) in omega arith) k ws e a
 
       here : start (nOf s) (sheetRows s) ≡ position (nOf s) (mOf s) Sheet 0 (λ j. 0) (λ j. false)
       unfolding codesOf
@@ -146,11 +146,11 @@ module _ (old : Header) (s store work literals rows : List ℕ) where
       solution : (b : Assignment) × Solves (position (nOf s) (mOf s) Sheet 0 (λ j. 0) (λ j. false)) b
       solution = made-solution (nOf s) (mOf s) Sheet 0 (λ j. 0) (λ j. false) kept k (made .R) (made .β) (made .S) (made .known) (made .truth) (made .made)
 
-      knows : (v : ℕ) → Var (nOf s) v → vals (ws ++ drop 4096 work) knownAt v ≡ made .known v
+      knows : (v : ℕ) → Var (nOf s) v → vals (ws ++ drop size work) knownAt v ≡ made .known v
       knows zero mv = let z = mv .low in absurd (omega arith)
       knows (suc i) mv = let b : i < 512 = let z = mv .high in let y = judged .0 .n-small in omega arith in whole-bit ws e knownAt (omega arith) i b ∙ made .values .knows i b
 
-      trues : (v : ℕ) → Var (nOf s) v → vals (ws ++ drop 4096 work) truthAt v ≡ made .truth v
+      trues : (v : ℕ) → Var (nOf s) v → vals (ws ++ drop size work) truthAt v ≡ made .truth v
       trues zero mv = let z = mv .low in absurd (omega arith)
       trues (suc i) mv = let b : i < 512 = let z = mv .high in let y = judged .0 .n-small in omega arith in whole-bit ws e truthAt (omega arith) i b ∙ made .values .trues i b
 
@@ -168,7 +168,7 @@ module _ (old : Header) (s store work literals rows : List ℕ) where
             known-listed (position (nOf s) (mOf s) Sheet 0 (λ j. 0) (λ j. false)) solution (made .known) (made .truth) values,
           ))
 
-      stands : Stands (opensWith (nOf s) (mOf s) k) (ws ++ drop 4096 work) (start (nOf s) (sheetRows s))
+      stands : Stands (opensWith (nOf s) (mOf s) k) (ws ++ drop size work) (start (nOf s) (sheetRows s))
       stands = record {
         Sheet = Sheet;
         kept = kept;
@@ -187,7 +187,7 @@ module _ (old : Header) (s store work literals rows : List ℕ) where
         reached = opened-reached (nOf s) (sheetRows s) k (take x literals′) answer;
       }
 
-      pub promise-open : OpenPromise old s store work literals rows (opensWith (nOf s) (mOf s) k) (Opened x) store′ (ws ++ drop 4096 work) literals′ rows
+      pub promise-open : OpenPromise old s store work literals rows (opensWith (nOf s) (mOf s) k) (Opened x) store′ (ws ++ drop size work) literals′ rows
       promise-open = record {
         refused = λ c q. absurd (not-refused c q);
         done = λ q. record {
@@ -201,9 +201,9 @@ module _ (old : Header) (s store work literals rows : List ℕ) where
       }
 
     -- ---- row q contradicts
-    module _ (q k : ℕ) (ws : List ℕ) (x : ℕ) (rows′ : List ℕ) (e : length ws ≡ length (take 4096 work)) (a : Stopped (mOf s) store′ (take 4096 work) q k ws)
-        (l : Listed (mOf s) 0 (numbers (mOf s) (bitAt (ws ++ drop 4096 work) (fromAt k))) rows rows′ x) where
-      pub promise-unsatisfiable : OpenPromise old s store work literals rows nothingOpen (Unsatisfiable x) store′ (ws ++ drop 4096 work) literals rows′
+    module _ (q k : ℕ) (ws : List ℕ) (x : ℕ) (rows′ : List ℕ) (e : length ws ≡ length (take size work)) (a : Stopped (mOf s) store′ (take size work) q k ws)
+        (l : Listed (mOf s) 0 (numbers (mOf s) (bitAt (ws ++ drop size work) (fromAt k))) rows rows′ x) where
+      pub promise-unsatisfiable : OpenPromise old s store work literals rows nothingOpen (Unsatisfiable x) store′ (ws ++ drop size work) literals rows′
       promise-unsatisfiable = record {
         refused = λ c z. absurd (not-refused c z);
         done = λ z. record {
@@ -217,21 +217,21 @@ module _ (old : Header) (s store work literals rows : List ℕ) where
         };
       }
         where
-          big : 4096 ≤ length (take 4096 work)
+          big : size ≤ length (take size work)
           big = let z = front-long work (judged .1) in omega arith
 
           f : (t : ℕ → Bool) × Fails (nOf s) (mOf s) Sheet kept q t × ((j : ℕ) → j < 256 → bitAt ws (fromAt k) j ≡ same q j ⊕ t j)
-          f = open-fails (nOf s) (mOf s) Sheet kept is-kept store′ rows-read (judged .0 .n-small) (judged .0 .m-small) (take 4096 work) big q k ws a
+          f = open-fails (nOf s) (mOf s) Sheet kept is-kept store′ rows-read (judged .0 .n-small) (judged .0 .m-small) (take size work) big q k ws a
 
           before : (j : ℕ) → j < q → (t : ℕ → Bool) → Fails (nOf s) (mOf s) Sheet kept j t → ⊥
-          before = let b = opens-built (nOf s) (mOf s) Sheet kept is-kept store′ rows-read (judged .0 .n-small) (judged .0 .m-small) (take 4096 work) big q k (a .middle) (let z = a .low in omega arith) (a .rows) in
+          before = let b = opens-built (nOf s) (mOf s) Sheet kept is-kept store′ rows-read (judged .0 .n-small) (judged .0 .m-small) (take size work) big q k (a .middle) (let z = a .low in omega arith) (a .rows) in
               no-failure (nOf s) (mOf s) Sheet kept q k (b .R) (b .β) (b .S) (b .built)
 
-          bits : (j : ℕ) → j < mOf s → bitAt (ws ++ drop 4096 work) (fromAt k) j ≡ same q j ⊕ f .0 j
+          bits : (j : ℕ) → j < mOf s → bitAt (ws ++ drop size work) (fromAt k) j ≡ same q j ⊕ f .0 j
           bits j h = whole-bit ws e (fromAt k) (let u = a .few in let v = a .low in let z = judged .0 .m-small in omega arith) j (let z = judged .0 .m-small in omega arith) ∙ f .2 j (let z = judged .0 .m-small in omega arith)
 
           list-is : take x rows′ ≡ map (λ r. r .number) (chosen (byNumber (f .0)) (numbered q Sheet) ++ (record { number = suc q; row = Sheet q } ∷ []))
-          list-is = listed-take (mOf s) _ rows rows′ x l (judged .3) ∙ numbers-failed q (mOf s) (bitAt (ws ++ drop 4096 work) (fromAt k)) (f .0) kept Sheet (a .low) (f .1 .sum .0) bits
+          list-is = listed-take (mOf s) _ rows rows′ x l (judged .3) ∙ numbers-failed q (mOf s) (bitAt (ws ++ drop size work) (fromAt k)) (f .0) kept Sheet (a .low) (f .1 .sum .0) bits
 
     pub promise-rows : (h : Header) (answer : Opening) (work′ literals′ rows′ : List ℕ) → RowsOpened (nOf s) (mOf s) store′ work literals rows h answer work′ literals′ rows′
         → OpenPromise old s store work literals rows h answer store′ work′ literals′ rows′
@@ -240,7 +240,7 @@ module _ (old : Header) (s store work literals rows : List ℕ) where
 
 -- ---- as the code has it: n and m as they were read
 pub fill-fine : (s : List ℕ) (store words literals rows n m : ℕ) → Read n m ≡ openReading s store words literals rows
-    → (n ≤ 512) × (m ≤ 256) × (bitsFor n m ≤ 8 * length s) × (9 * m ≤ store) × (4096 ≤ words) × (n ≤ literals) × (m ≤ rows)
+    → (n ≤ 512) × (m ≤ 256) × (bitsFor n m ≤ 8 * length s) × (9 * m ≤ store) × (size ≤ words) × (n ≤ literals) × (m ≤ rows)
 fill-fine s store words literals rows n m e =
     let f = said-read (refusal (openChecks s store words literals rows)) n m (nOf s) (mOf s) e in
     let j = open-judged s store words literals rows (f .0) in

@@ -9,25 +9,26 @@ use lib.Seq.{getD-take, take-append-seam, drop-append-seam}
 use Prim.Native.Nat.{ℕ, _+_, _-_, _/_, _%_, _≤_, _<_}
 use native.Mathlib.Omega.{arith}
 use Rattle.words.specs.Words.{bitOf, bitAt}
+use Rattle.tableau.specs.Layout.{size}
 use Rattle.parity.specs.Promises.{Worked}
 
-pub front-long : (work : List ℕ) → 4096 ≤ length work → length (take 4096 work) ≡ 4096
-front-long work l = let e = length-take 4096 work in omega arith
+pub front-long : (work : List ℕ) → size ≤ length work → length (take size work) ≡ size
+front-long work l = let e = length-take size work in omega arith
 
 -- their bits are the buffer's
-pub front-bit : (work : List ℕ) → 4096 ≤ length work → (off : ℕ) → off + 8 ≤ 4096 → (i : ℕ) → i < 512 → bitAt (take 4096 work) off i ≡ bitAt work off i
+pub front-bit : (work : List ℕ) → size ≤ length work → (off : ℕ) → off + 8 ≤ size → (i : ℕ) → i < 512 → bitAt (take size work) off i ≡ bitAt work off i
 unfolding bitAt
-front-bit work l off b i h = ap (λ (w : ℕ). bitOf w (63 - i % 64)) (getD-take 4096 work (off + i / 64) 0 (omega arith))
+front-bit work l off b i h = ap (λ (w : ℕ). bitOf w (63 - i % 64)) (getD-take size work (off + i / 64) 0 (omega arith))
 
-module _ (work ws : List ℕ) (l : 4096 ≤ length work) (e : length ws ≡ length (take 4096 work)) where
-  long : length ws ≡ 4096
+module _ (work ws : List ℕ) (l : size ≤ length work) (e : length ws ≡ length (take size work)) where
+  long : length ws ≡ size
   long = e ∙ front-long work l
 
-  pub replaced-front : take 4096 (ws ++ drop 4096 work) ≡ ws
-  replaced-front = ap (λ (z : ℕ). take z (ws ++ drop 4096 work)) (sym long) ∙ take-append-seam ws (drop 4096 work)
+  pub replaced-front : take size (ws ++ drop size work) ≡ ws
+  replaced-front = ap (λ (z : ℕ). take z (ws ++ drop size work)) (sym long) ∙ take-append-seam ws (drop size work)
 
-  pub replaced-worked : Worked work (ws ++ drop 4096 work)
+  pub replaced-worked : Worked work (ws ++ drop size work)
   replaced-worked = record {
-    long = let a = length-append ws (drop 4096 work) in let b = length-drop 4096 work in let c = long in omega arith;
-    rest = ap (λ (z : ℕ). drop z (ws ++ drop 4096 work)) (sym long) ∙ drop-append-seam ws (drop 4096 work);
+    long = let a = length-append ws (drop size work) in let b = length-drop size work in let c = long in omega arith;
+    rest = ap (λ (z : ℕ). drop z (ws ++ drop size work)) (sym long) ∙ drop-append-seam ws (drop size work);
   }

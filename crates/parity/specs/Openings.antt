@@ -13,7 +13,7 @@ use Rattle.judge.specs.declared.Header.{Header}
 use Rattle.words.specs.Words.{bitAt}
 use Rattle.sheet.specs.declared.Reading.{Reading}
 use Rattle.sheet.specs.Reader.{said}
-use Rattle.tableau.specs.Layout.{fromAt, knownAt, truthAt}
+use Rattle.tableau.specs.Layout.{fromAt, knownAt, truthAt, size}
 use Rattle.tableau.specs.View.{vals}
 use Rattle.lists.specs.Listing.{numbers, Listed}
 use Rattle.opening.specs.Opened.{AllIn, Stopped}
@@ -25,9 +25,9 @@ abbrev pub openReading : List ℕ → ℕ → ℕ → ℕ → ℕ → Reading
 openReading s store words literals rows = said (refusal (openChecks s store words literals rows)) (nOf s) (mOf s)
 
 pub data RowsOpened (n m : ℕ) (store work literals rows : List ℕ) : Header → Opening → List ℕ → List ℕ → List ℕ → Type 0 where
-  all-in : (k : ℕ) (ws : List ℕ) (x : ℕ) (literals′ : List ℕ) → length ws ≡ length (take 4096 work) → AllIn m store (take 4096 work) k ws
-      → Listed n 0 (scanned n (vals (ws ++ drop 4096 work) knownAt) (vals (ws ++ drop 4096 work) truthAt)) literals literals′ x
-      → RowsOpened n m store work literals rows (opensWith n m k) (Opened x) (ws ++ drop 4096 work) literals′ rows
-  stopped : (q k : ℕ) (ws : List ℕ) (x : ℕ) (rows′ : List ℕ) → length ws ≡ length (take 4096 work) → Stopped m store (take 4096 work) q k ws
-      → Listed m 0 (numbers m (bitAt (ws ++ drop 4096 work) (fromAt k))) rows rows′ x
-      → RowsOpened n m store work literals rows nothingOpen (Unsatisfiable x) (ws ++ drop 4096 work) literals rows′
+  all-in : (k : ℕ) (ws : List ℕ) (x : ℕ) (literals′ : List ℕ) → length ws ≡ length (take size work) → AllIn m store (take size work) k ws
+      → Listed n 0 (scanned n (vals (ws ++ drop size work) knownAt) (vals (ws ++ drop size work) truthAt)) literals literals′ x
+      → RowsOpened n m store work literals rows (opensWith n m k) (Opened x) (ws ++ drop size work) literals′ rows
+  stopped : (q k : ℕ) (ws : List ℕ) (x : ℕ) (rows′ : List ℕ) → length ws ≡ length (take size work) → Stopped m store (take size work) q k ws
+      → Listed m 0 (numbers m (bitAt (ws ++ drop size work) (fromAt k))) rows rows′ x
+      → RowsOpened n m store work literals rows nothingOpen (Unsatisfiable x) (ws ++ drop size work) literals rows′

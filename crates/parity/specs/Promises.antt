@@ -23,6 +23,7 @@ use Rattle.format.specs.Sheet.{nOf, mOf, sheetRows, storeWords, reader}
 use Rattle.judge.specs.declared.Header.{Header}
 use Rattle.judge.specs.Checks.{Fit, assumeChecks, backChecks, explainChecks, atDepth}
 use Rattle.tableau.specs.View.{MadeAt}
+use Rattle.tableau.specs.Layout.{size}
 use Rattle.parity.specs.declared.Opening.{Opening}
 use Rattle.parity.specs.declared.Opening.the-variants.{OpenRefused, Unsatisfiable, Opened}
 use Rattle.parity.specs.declared.Assuming.{Assuming}
@@ -40,7 +41,7 @@ pub record Stands (h : Header) (work : List ℕ) (p : Position) : Type 0 where
   pub val : ℕ → Bool
   pub fit : Fit h
   pub is-kept : Kept (h .n) (h .m) Sheet kept
-  pub made : MadeAt (take 4096 work) (h .n) (h .m) Sheet kept (h .depth) var val (h .kept)
+  pub made : MadeAt (take size work) (h .n) (h .m) Sheet kept (h .depth) var val (h .kept)
   pub here : p ≡ position (h .n) (h .m) Sheet (h .depth) var val
   pub reached : Reached p
 
@@ -58,7 +59,7 @@ pub record Used (x : ℕ) (old new : List ℕ) : Type 0 where
 
 pub record Worked (old new : List ℕ) : Type 0 where
   pub long : length new ≡ length old
-  pub rest : drop 4096 new ≡ drop 4096 old
+  pub rest : drop size new ≡ drop size old
 
 -- ---- open
 

@@ -205,7 +205,7 @@ fn open_all(
     literals: &mut [u64],
     rows: &mut [u64],
 ) -> OpenOut
-    requires { ⌜ (n ≤ 512) × (m ≤ 256) × (9 * m ≤ length (now store)) × (4096 ≤ length (now work)) × (n ≤ length (now literals)) × (m ≤ length (now rows)) ⌝ }
+    requires { ⌜ (n ≤ 512) × (m ≤ 256) × (9 * m ≤ length (now store)) × (size ≤ length (now work)) × (n ≤ length (now literals)) × (m ≤ length (now rows)) ⌝ }
     ensures { λ r. ⌜ RowsOpened n m (now (store .entry)) (now (work .entry)) (now (literals .entry)) (now (rows .entry)) (r .header) (r .answer) (now (work .exit)) (now (literals .exit)) (now (rows .exit)) ⌝ }
 {
     let x = opening::open_rows(&mut work[..SIZE], store, m);

@@ -7,6 +7,7 @@ use native.Mathlib.Omega.{arith}
 use Rattle.format.specs.Refusals.{refusal}
 use Rattle.judge.specs.Checks.{Fit, assumeChecks}
 use Rattle.judge.proofs.Judged.{assume-judged}
+use Rattle.tableau.specs.Layout.{size}
 use Rattle.parity.proofs.Part.{front-long, replaced-worked}
 use Rattle.parity.proofs.Assumed.{taken-facts, promise-refused, promise-held, promise-conflict, promise-stuck, promise-taken}
 use borrow.Author.Needs.{needs}
@@ -17,7 +18,7 @@ use Rattle.parity.proofs.assume.Tie as tie
 passed : (c : tie.Else1) → refusal (assumeChecks (c .before .before .before .before .args .h) (length (c .before .before .before .before .args .work .now)) (length (c .before .before .before .before .args .literals .now)) (c .before .before .before .before .args .code)) ≡ 0
 passed c = sym (c .before .judge-assume .ensures) ∙ c .if1 .left
 
-judged : (c : tie.Else1) → let a = c .before .before .before .before .args in Fit (a .h) × (4096 ≤ length (a .work .now)) × (a .h .n ≤ length (a .literals .now)) × (2 ≤ a .code) × (a .code ≤ 2 * a .h .n + 1)
+judged : (c : tie.Else1) → let a = c .before .before .before .before .args in Fit (a .h) × (size ≤ length (a .work .now)) × (a .h .n ≤ length (a .literals .now)) × (2 ≤ a .code) × (a .code ≤ 2 * a .h .n + 1)
 judged c = let a = c .before .before .before .before .args in assume-judged (a .h) (length (a .work .now)) (length (a .literals .now)) (a .code) (passed c)
 
 judge-assume-requires : tie.Need-judge-assume-requires
@@ -59,7 +60,7 @@ deeper-requires c κs = let m = c .before .before .before .before .before .befor
     let e = o .before .before .before .before in
     let a = e .before .before .before .before .args in
     let j = judged e in
-    let f = taken-facts (a .h .n) (a .h .kept) (a .h .depth) (a .code) (take 4096 (a .work .now)) (o .offer .last .0) (o .offer .result) (o .offer .ensures) (m .match .keys3) .0 in
+    let f = taken-facts (a .h .n) (a .h .kept) (a .h .depth) (a .code) (take size (a .work .now)) (o .offer .last .0) (o .offer .result) (o .offer .ensures) (m .match .keys3) .0 in
     let v = j .0 .vars in
     omega (arith, f, v)
 

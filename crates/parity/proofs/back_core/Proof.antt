@@ -6,6 +6,7 @@ use Prim.Native.Nat.{_≤_}
 use native.Mathlib.Omega.{arith}
 use Rattle.judge.specs.Checks.{Fit}
 use Rattle.judge.proofs.Judged.{back-judged}
+use Rattle.tableau.specs.Layout.{size}
 use Rattle.parity.proofs.Part.{front-long, replaced-worked}
 use Rattle.parity.proofs.Going.{back-stands}
 use borrow.Author.Needs.{needs}
@@ -13,7 +14,7 @@ use Rattle.parity.proofs.back_core.Statement.{statement}
 use Rattle.parity.proofs.back_core.Tie as tie
 
 -- what the judge let pass
-judged : (c : tie.Else1) → Fit (c .before .before .before .args .h) × (4096 ≤ length (c .before .before .before .args .work .now)) × (c .before .before .before .args .depth ≤ c .before .before .before .args .h .depth)
+judged : (c : tie.Else1) → Fit (c .before .before .before .args .h) × (size ≤ length (c .before .before .before .args .work .now)) × (c .before .before .before .args .depth ≤ c .before .before .before .args .h .depth)
 judged c = let a = c .before .before .before .args in back-judged (a .h) (length (a .work .now)) (a .depth) (sym (c .before .judge-back .ensures) ∙ c .if1 .left)
 
 judge-back-requires : tie.Need-judge-back-requires

@@ -9,6 +9,7 @@ use Rattle.gf2.specs.Rows.{Var}
 use Rattle.format.specs.Refusals.{refusal}
 use Rattle.judge.specs.Checks.{Fit, explainChecks}
 use Rattle.judge.proofs.Judged.{explain-judged}
+use Rattle.tableau.specs.Layout.{size}
 use Rattle.parity.proofs.Explaineds.{promise-denied, promise-no-value, promise-assumed, promise-explained}
 use borrow.Author.Needs.{needs}
 use Rattle.parity.proofs.explain.Statement.{statement}
@@ -18,7 +19,7 @@ use Rattle.parity.proofs.explain.Tie as tie
 passed : (c : tie.Else1) → let a = c .before .before .before .before .before .args in refusal (explainChecks (a .h) (length (a .work .now)) (length (a .clause .now)) (length (a .rows .now)) (a .v)) ≡ 0
 passed c = sym (c .before .judge-explain .ensures) ∙ c .if1 .left
 
-judged : (c : tie.Else1) → let a = c .before .before .before .before .before .args in Fit (a .h) × (4096 ≤ length (a .work .now)) × (a .h .n ≤ length (a .clause .now)) × (a .h .m ≤ length (a .rows .now)) × Var (a .h .n) (a .v)
+judged : (c : tie.Else1) → let a = c .before .before .before .before .before .args in Fit (a .h) × (size ≤ length (a .work .now)) × (a .h .n ≤ length (a .clause .now)) × (a .h .m ≤ length (a .rows .now)) × Var (a .h .n) (a .v)
 judged c = let a = c .before .before .before .before .before .args in explain-judged (a .h) (length (a .work .now)) (length (a .clause .now)) (length (a .rows .now)) (a .v) (passed c)
 
 judge-explain-requires : tie.Need-judge-explain-requires
