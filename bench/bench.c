@@ -11,7 +11,7 @@
 
 static int rounds = ROUNDS;
 static double batch_us = 400; /* how long a batch lasts at least */
-enum { BATCHES = 3, SAMPLES = 8 };
+enum { BATCHES = 3, SAMPLES = 512 };
 
 static double now_us(void)
 {
@@ -23,6 +23,7 @@ static double now_us(void)
 /* ---- the contestants ---- */
 
 static sample samples[SAMPLES];
+static const sample *end; /* behind those in use */
 static const sample *now; /* the one that is worked on */
 static parity_header header;
 static uint64_t store[PARITY_STORE_WORDS], work[PARITY_WORK_WORDS];
@@ -84,14 +85,14 @@ static double take_turn(void (*contestant)(void))
     double best = 0;
     int batch;
     for (batch = 0; batch < BATCHES; batch++) {
-        double start = now_us(), end;
+        double start = now_us(), us;
         int calls = 0;
         do {
-            for (now = samples; now < samples + SAMPLES; now++, calls++)
+            for (now = samples; now < end; now++, calls++)
                 contestant();
-            end = now_us();
-        } while (end - start < batch_us);
-        keep_best(&best, (end - start) / calls);
+            us = now_us() - start;
+        } while (us < batch_us);
+        keep_best(&best, us / calls);
     }
     return best;
 }
@@ -135,7 +136,7 @@ static void go_back(double *us)
 
 static void search(double *us, uint64_t *seed)
 {
-    for (now = samples; now < samples + SAMPLES; now++) {
+    for (now = samples; now < end; now++) {
         do_open();
         take_all(us, seed);
         explain_all(us);
@@ -147,12 +148,19 @@ static void search(double *us, uint64_t *seed)
 
 static void check_all(void)
 {
-    for (now = samples; now < samples + SAMPLES; now++) {
+    for (now = samples; now < end; now++) {
         do_open();
         do_write();
         must(header.kept == plain_eliminate(now->store, now->m, plain_rows), "kept counts differ");
         must(memcmp(written, now->sheet, now->size) == 0, "the written sheet differs");
     }
+}
+
+/* The fewer rows, the more systems: about as many tests of rows in all, more than a processor learns by heart. */
+static size_t kinds_of(size_t m)
+{
+    size_t kinds = 8 * 256 * 256 / (m * m);
+    return kinds < SAMPLES ? kinds : SAMPLES;
 }
 
 static timing time_system(family f, size_t n, size_t m)
@@ -164,7 +172,8 @@ static timing time_system(family f, size_t n, size_t m)
     t.family = f;
     t.n = n;
     t.m = m;
-    for (i = 0; i < SAMPLES; i++)
+    end = samples + kinds_of(m);
+    for (i = 0; samples + i < end; i++)
         make_sample(&samples[i], f, n, m, 1000000 * (uint64_t)i + 1000 * n + m);
     check_all();
     m4ri_start(n, m);

@@ -182,18 +182,19 @@ static void growth_table(FILE *out, const timing *t, int over_m)
     fprintf(out, " of %s.\n", over_m ? "m" : "n");
 }
 
-/* An aim, and the systems that miss it: all of them count, or those of at least so many variables. */
+/* An aim, and the systems of at least so many variables that miss it. */
 static void aim(FILE *out, const results *r, const char *what, double (*of)(const double *us), double most, size_t from)
 {
-    int i, missed = 0;
+    int i, measured = 0, missed = 0;
     fprintf(out, "- %s at most %g: ", what, most);
     for (i = 0; i < SYSTEMS; i++) {
         const timing *t = &r->systems[i];
         double got = median(t, of);
+        measured += got > 0;
         if (t->n >= from && got > most)
             fprintf(out, "%s%s %zu (%.3f)", missed++ ? ", " : "missed by ", family_names[t->family], t->n, got);
     }
-    fprintf(out, "%s\n", missed ? "" : "met");
+    fprintf(out, "%s\n", missed ? "" : measured ? "met" : "not measured");
 }
 
 void write_report(FILE *out, const results *r)
