@@ -30,6 +30,7 @@ static uint64_t store[PARITY_STORE_WORDS], work[PARITY_WORK_WORDS];
 static uint64_t literals[PARITY_MAX_VARIABLES], rows[PARITY_MAX_ROWS];
 static uint8_t written[PARITY_SHEET_BYTES];
 static plain_row plain_rows[PARITY_MAX_ROWS];
+static int placement;
 
 static void must(int fact, const char *what)
 {
@@ -65,7 +66,7 @@ static void do_decode(void)
 
 static void do_plain(void)
 {
-    must(plain_eliminate(now->store, now->m, plain_rows) > 0, "plain elimination found a contradiction");
+    must(plain_eliminate[placement](now->store, now->m, plain_rows) > 0, "plain elimination found a contradiction");
 }
 
 static void do_m4ri(void)
@@ -151,7 +152,8 @@ static void check_all(void)
     for (now = samples; now < end; now++) {
         do_open();
         do_write();
-        must(header.kept == plain_eliminate(now->store, now->m, plain_rows), "kept counts differ");
+        for (placement = 0; placement < PLACEMENTS; placement++)
+            must(header.kept == plain_eliminate[placement](now->store, now->m, plain_rows), "kept counts differ");
         must(memcmp(written, now->sheet, now->size) == 0, "the written sheet differs");
     }
 }
@@ -182,7 +184,8 @@ static timing time_system(family f, size_t n, size_t m)
         us[READ] = take_turn(do_read);
         us[WRITE] = take_turn(do_write);
         us[DECODE] = take_turn(do_decode);
-        us[PLAIN] = take_turn(do_plain);
+        for (placement = 0; placement < PLACEMENTS; placement++)
+            keep_best(&us[PLAIN], take_turn(do_plain));
         us[M4RI] = m4ri_there() ? take_turn(do_m4ri) : 0;
         us[OPEN] = take_turn(do_open);
         search(us, &seed);

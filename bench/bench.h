@@ -28,8 +28,9 @@ typedef struct {
 } plain_row;
 
 void plain_decode(const uint8_t *sheet, size_t n, size_t m, uint64_t *store);
-size_t plain_eliminate(const uint64_t *store, size_t m,
-                       plain_row *rows); /* the rows kept; none where they contradict */
+enum { PLACEMENTS = 4 }; /* the same elimination at four places in a cache line */
+/* the rows kept; none where they contradict */
+extern size_t (*const plain_eliminate[PLACEMENTS])(const uint64_t *store, size_t m, plain_row *rows);
 
 /* ---- four_russians.c: M4RI, where it is installed ---- */
 

@@ -1,5 +1,6 @@
 /* plain.c: what the module's opening does, in straightforward C: bits one by one out of the sheet, then full reduced
- * elimination that keeps for each row which rows of the sheet it is the sum of. */
+ * elimination that keeps for each row which rows of the sheet it is the sum of. Where its loops stand in memory moves
+ * its time by up to a fifth, so it is there in four placements, and the best of them counts. */
 #include "bench.h"
 #include <string.h>
 
@@ -42,7 +43,7 @@ static int lowest(const plain_row *row, size_t *column)
     return 0;
 }
 
-size_t plain_eliminate(const uint64_t *store, size_t m, plain_row *rows)
+static inline __attribute__((always_inline)) size_t eliminate(const uint64_t *store, size_t m, plain_row *rows)
 {
     size_t kept = 0, r, k;
     for (r = 0; r < m; r++) {
@@ -66,3 +67,19 @@ size_t plain_eliminate(const uint64_t *store, size_t m, plain_row *rows)
     }
     return kept;
 }
+
+/* The same loops, so many bytes behind the start of a cache line. */
+#define PLACED(bytes)                                                                                                  \
+    static __attribute__((noinline, aligned(64), patchable_function_entry(bytes)))                                     \
+    size_t placed_##bytes(const uint64_t *store, size_t m, plain_row *rows)                                            \
+    {                                                                                                                  \
+        return eliminate(store, m, rows);                                                                              \
+    }
+
+PLACED(0)
+PLACED(16)
+PLACED(32)
+PLACED(48)
+
+size_t (*const plain_eliminate[PLACEMENTS])(const uint64_t *, size_t, plain_row *) = {placed_0, placed_16, placed_32,
+                                                                                      placed_48};

@@ -209,7 +209,8 @@ void write_report(FILE *out, const results *r)
     fprintf(out,
             "\n- open/M4RI: opening, reading included, against a plain C decode and `mzd_echelonize_m4ri` on "
             "coefficients, parity and provenance\n"
-            "- elim/plain: opening less reading, against the same elimination in plain C (`bench/plain.c`, gcc -O3)\n"
+            "- elim/plain: opening less reading, against the same elimination in plain C (`bench/plain.c`, gcc -O3, "
+            "the best of four placements in memory)\n"
             "- the others: one call against one opening, or against one reading\n\n");
     system_table(out, r);
     fprintf(out, "\n## Aims\n\n");
