@@ -108,10 +108,10 @@ module _ (n k : ℕ) (ws : List ℕ) (R : ℕ → Row) (β : ℕ → ℕ) (S : �
     c = clearing k (omega arith) (ex .middle) (ex .cleared)
 
     other-word : (i : ℕ) → i ≢ lastAt p → getD w i 0 ≡ getD (ex .middle) i 0
-    other-word i d = ap (λ (l : List ℕ). getD l i 0) (ex .pointed) ∙ getD-set-other (ex .middle) (lastAt p) i _ 0 d
+    other-word i d = ap (λ (l : List ℕ). getD l i 0) (ex .points) ∙ getD-set-other (ex .middle) (lastAt p) i _ 0 d
 
     last-word : getD w (lastAt p) 0 ≡ 2 * u + getD (ex .middle) (lastAt p) 0 % 2
-    last-word = ap (λ (l : List ℕ). getD l (lastAt p) 0) (ex .pointed) ∙ getD-set-same (ex .middle) (lastAt p) _ 0 (omega (arith, ex .long))
+    last-word = ap (λ (l : List ℕ). getD l (lastAt p) 0) (ex .points) ∙ getD-set-same (ex .middle) (lastAt p) _ 0 (omega (arith, ex .long))
 
     bits : (r : ℕ) → r < k → (i : ℕ) → i < 768 → bitAt w (rowAt r) i ≡ bitAt ws (rowAt r) i ⊕ (adds r && bitAt ws (rowAt p) i)
     bits r l i li = bit-same (ex .middle) w (rowAt r) (rowAt r) i (other-word (rowAt r + i / 64) (λ (z : rowAt r + i / 64 ≡ lastAt p). absurd (omega arith))) ∙ c .done r l i li

@@ -29,9 +29,10 @@ use Rattle.tableau.specs.View.{LitsRead, MadeAt}
 use Rattle.tableau.proofs.Reading.{entry-stay, lits-stay, bit-of}
 use Rattle.settle.specs.Values.{lacks, Followed}
 use Rattle.settle.proofs.Follows.{follow-made}
-use Rattle.exchange.specs.Steps.{Partner, Freed, free, stuck, moved, Stepped, held, conflict, refused, taken, Outcome, was-held, was-conflict, was-taken}
+use Rattle.exchange.specs.Steps.{Partner, Found, Exchanged, Took, followed, turned, stuck, Stepped, held, conflict, refused, taken, Outcome, was-held, was-conflict, was-taken}
 use Rattle.exchange.proofs.Exchanges.{exchange-rows, exchange-rest}
 use Rattle.exchange.proofs.Finds.{found-none}
+use Rattle.exchange.proofs.Turns.{Apart, turned-apart}
 
 pub partner-high : (ws : List ℕ) (r p x : ℕ) → Partner ws r p x → x ≤ maxVars
 partner-high ws r p zero q = omega arith
@@ -50,8 +51,8 @@ beq-other true false h e = true≢false e
 beq-other false true h e = false≢true e
 beq-other false false h e = true≢false h
 
-pub refused-still : (k d code : ℕ) (ws w : List ℕ) → bitAt ws knownAt (code / 2 - 1) ≡ false → Freed k (code / 2) ws w false → Stepped k d code ws w 12
-refused-still k d code ws w e (stuck p l f q) = refused e (stuck p l f q)
+pub refused-still : (k d code : ℕ) (ws w : List ℕ) → bitAt ws knownAt (code / 2 - 1) ≡ false → Took k d code ws w false → Stepped k d code ws w 12
+refused-still k d code ws w e (stuck p l f q z) = rw z (refused e (stuck p l f q refl))
 
 -- ---- a variable without a value is made non-basic
 pub record FreeAt (ws : List ℕ) (n m : ℕ) (Sheet : ℕ → Row) (kept : ℕ → Bool) (d : ℕ) (x : ℕ → ℕ) (y : ℕ → Bool) (k v : ℕ) : Type 0 where
@@ -77,91 +78,97 @@ module _ (n m : ℕ) (Sheet : ℕ → Row) (kept : ℕ → Bool) (d : ℕ) (x : 
   lacks-parts false b h = (h, absurd (false≢true h))
 
   module _ (v : ℕ) (mv : Var n v) (un : s .known v ≡ false) where
-    freed : (w : List ℕ) (ok : Bool) → length w ≡ length ws → Freed k v ws w ok → (ok ≡ true) × FreeAt w n m Sheet kept d x y k v
-    freed w ok len (free f) = (refl, record { at = s; nonbasic = found-none n k v ws (s .R) (s .β) (s .made .built .tableau) (s .rows .basic) bits f; unknown = un })
-      where
-        bits : (r : ℕ) → r < k → bitAt ws (rowAt r) (v - 1) ≡ s .R r v
-        bits r l = let a = mv .low in let b = mv .high in let c = s .vars in s .rows .coefs r l (v - 1) (omega arith) ∙ ap (s .R r) (bit-of v (mv .low))
-    freed w ok len (stuck p l f q) = absurd (none q)
-      where
-        here : s .β p ≡ v
-        here = sym (s .rows .basic p l) ∙ f .here l
+    -- the coefficient of v in a row, as it is read
+    own-bits : (r : ℕ) → r < k → bitAt ws (rowAt r) (v - 1) ≡ s .R r v
+    own-bits r l = let a = mv .low in let b = mv .high in let c = s .vars in s .rows .coefs r l (v - 1) (omega arith) ∙ ap (s .R r) (bit-of v (mv .low))
 
-        none : Partner ws p (v - 1) 0 → ⊥
-        none q =
-            let o = partner n m Sheet kept d x y k (s .R) (s .β) (s .S) (s .known) (s .truth) (s .made) p l (ap (s .known) here ∙ un) in
-            let lo = o .1 .low in
-            let hi = o .1 .high in
-            let c = s .vars in
-            let e = bit-of (o .0) lo in
-            let i : o .0 - 1 < maxVars = omega arith in
-            clash (lacks ws p (o .0 - 1))
-            (lacks-is p l (o .0 - 1) i ∙ rw (ap (s .R p) e ∙ o .2, ap (s .known) e ∙ o .4))
-            (q .none refl (o .0 - 1) i (λ z. o .3 (sym e ∙ ap suc z ∙ bit-of v (mv .low) ∙ sym here)))
-    freed w ok len (moved p u w₁ l f q pos ex) = (refl, go (u - 1) (bit-of u pos))
-      where
-        here : s .β p ≡ v
-        here = sym (s .rows .basic p l) ∙ f .here l
+    free-at : Found ws k v k → FreeAt ws n m Sheet kept d x y k v
+    free-at f = record { at = s; nonbasic = found-none n k v ws (s .R) (s .β) (s .made .built .tableau) (s .rows .basic) own-bits f; unknown = un }
 
-        go : (i : ℕ) → suc i ≡ u → FreeAt w n m Sheet kept d x y k v
-        go i e = record { at = after; nonbasic = rw here at (exchange-frees n m Sheet kept d x y k (s .R) (s .β) (s .S) (s .known) (s .truth) (s .made) p u l mu ru du ku kp); unknown = un }
-          where
-            o : (i < maxVars) × (i ≢ v - 1) × (lacks ws p i ≡ true)
-            o = q .some i (sym e)
+    module _ (p : ℕ) (l : p < k) (f : Found ws k v p) where
+      here : s .β p ≡ v
+      here = sym (s .rows .basic p l) ∙ f .here l
 
-            parts : (s .R p (suc i) ≡ true) × (s .known (suc i) ≡ false)
-            parts = lacks-parts _ _ (sym (lacks-is p l i (o .0)) ∙ o .2)
+      in-row : bitAt ws (rowAt p) (v - 1) ≡ true
+      in-row = own-bits p l ∙ ap (s .R p) (sym here) ∙ s .made .built .tableau .own p l
 
-            ru : s .R p u ≡ true
-            ru = ap (s .R p) (sym e) ∙ parts .0
+      in-no-other : (r : ℕ) → r < k → r ≢ p → bitAt ws (rowAt r) (v - 1) ≡ false
+      in-no-other r lr e = own-bits r lr ∙ ap (s .R r) (sym here) ∙ s .made .built .tableau .alone p r l lr (λ z. e (sym z))
 
-            ku : s .known u ≡ false
-            ku = ap (s .known) (sym e) ∙ parts .1
+      never-stuck : Partner ws p (v - 1) 0 → ⊥
+      never-stuck q =
+          let o = partner n m Sheet kept d x y k (s .R) (s .β) (s .S) (s .known) (s .truth) (s .made) p l (ap (s .known) here ∙ un) in
+          let lo = o .1 .low in
+          let hi = o .1 .high in
+          let c = s .vars in
+          let e = bit-of (o .0) lo in
+          let i : o .0 - 1 < maxVars = omega arith in
+          clash (lacks ws p (o .0 - 1))
+          (lacks-is p l (o .0 - 1) i ∙ rw (ap (s .R p) e ∙ o .2, ap (s .known) e ∙ o .4))
+          (q .none refl (o .0 - 1) i (λ z. o .3 (sym e ∙ ap suc z ∙ bit-of v (mv .low) ∙ sym here)))
 
-            kp : s .known (s .β p) ≡ false
-            kp = ap (s .known) here ∙ un
+      moved-at : (u : ℕ) (w : List ℕ) → length w ≡ length ws → Partner ws p (v - 1) u → 0 < u → Exchanged k p u ws w → FreeAt w n m Sheet kept d x y k v
+      moved-at u w len q pos ex = go (u - 1) (bit-of u pos)
+        where
+          go : (i : ℕ) → suc i ≡ u → FreeAt w n m Sheet kept d x y k v
+          go i e = record { at = after; nonbasic = rw here at (exchange-frees n m Sheet kept d x y k (s .R) (s .β) (s .S) (s .known) (s .truth) (s .made) p u l mu ru du ku kp); unknown = un }
+            where
+              o : (i < maxVars) × (i ≢ v - 1) × (lacks ws p i ≡ true)
+              o = q .some i (sym e)
 
-            du : u ≢ s .β p
-            du z = o .1 (same-bit (z ∙ here))
-              where
-                same-bit : u ≡ v → i ≡ v - 1
-                same-bit z = omega arith
+              parts : (s .R p (suc i) ≡ true) × (s .known (suc i) ≡ false)
+              parts = lacks-parts _ _ (sym (lacks-is p l i (o .0)) ∙ o .2)
 
-            mu : Var n u
-            mu = record { low = pos; high = inside (bool-dec (s .R p u)) }
-              where
-                inside : (s .R p u ≡ true) ⊎ (s .R p u ≡ false) → u ≤ n
-                inside h = le u n (λ g. clash (s .R p u) ru (s .rows .clean p l u g))
-                  where
-                    le : (a b : ℕ) → (b < a → ⊥) → a ≤ b
-                    le a b g = omega (arith, g)
+              ru : s .R p u ≡ true
+              ru = ap (s .R p) (sym e) ∙ parts .0
 
-            upper : u ≤ maxVars
-            upper = let h = o .0 in omega arith
+              ku : s .known u ≡ false
+              ku = ap (s .known) (sym e) ∙ parts .1
 
-            rest : (j : ℕ) → knownAt ≤ j → getD w j 0 ≡ getD ws j 0
-            rest = exchange-rest n k ws (s .R) (s .β) (s .S) p u (s .few) l pos upper (s .rows) w (s .room) ex
+              kp : s .known (s .β p) ≡ false
+              kp = ap (s .known) here ∙ un
 
-            after : MadeAt w n m Sheet kept d x y k
-            after =
-                record {
-                  R = pivot (s .R) p u;
-                  β = repoint (s .β) p u;
-                  S = passed (s .S) (s .R) p u;
-                  known = s .known;
-                  truth = s .truth;
-                  vars = s .vars;
-                  few = s .few;
-                  room = let h = s .room in omega arith;
-                  rows = exchange-rows n k ws (s .R) (s .β) (s .S) p u (s .few) l pos upper (s .rows) w (s .room) ex;
-                  values = record {
-                    within = s .values .within;
-                    knows = λ j h. bit-same ws w knownAt knownAt j (rest (knownAt + j / 64) (omega arith)) ∙ s .values .knows j h;
-                    trues = λ j h. bit-same ws w truthAt truthAt j (rest (truthAt + j / 64) (omega arith)) ∙ s .values .trues j h;
-                  };
-                  lits = lits-stay d ws w x y (λ j h. entry-stay ws w (λ i g. rest i (omega arith)) j) (s .lits);
-                  made = exchange-made n m Sheet kept d x y k (s .R) (s .β) (s .S) (s .known) (s .truth) (s .made) p u l mu ru du ku kp;
-                }
+              du : u ≢ s .β p
+              du z = o .1 (same-bit (z ∙ here))
+                where
+                  same-bit : u ≡ v → i ≡ v - 1
+                  same-bit z = omega arith
+
+              mu : Var n u
+              mu = record { low = pos; high = inside (bool-dec (s .R p u)) }
+                where
+                  inside : (s .R p u ≡ true) ⊎ (s .R p u ≡ false) → u ≤ n
+                  inside h = le u n (λ g. clash (s .R p u) ru (s .rows .clean p l u g))
+                    where
+                      le : (a b : ℕ) → (b < a → ⊥) → a ≤ b
+                      le a b g = omega (arith, g)
+
+              upper : u ≤ maxVars
+              upper = let h = o .0 in omega arith
+
+              rest : (j : ℕ) → knownAt ≤ j → getD w j 0 ≡ getD ws j 0
+              rest = exchange-rest n k ws (s .R) (s .β) (s .S) p u (s .few) l pos upper (s .rows) w (s .room) ex
+
+              after : MadeAt w n m Sheet kept d x y k
+              after =
+                  record {
+                    R = pivot (s .R) p u;
+                    β = repoint (s .β) p u;
+                    S = passed (s .S) (s .R) p u;
+                    known = s .known;
+                    truth = s .truth;
+                    vars = s .vars;
+                    few = s .few;
+                    room = let h = s .room in omega arith;
+                    rows = exchange-rows n k ws (s .R) (s .β) (s .S) p u (s .few) l pos upper (s .rows) w (s .room) ex;
+                    values = record {
+                      within = s .values .within;
+                      knows = λ j h. bit-same ws w knownAt knownAt j (rest (knownAt + j / 64) (omega arith)) ∙ s .values .knows j h;
+                      trues = λ j h. bit-same ws w truthAt truthAt j (rest (truthAt + j / 64) (omega arith)) ∙ s .values .trues j h;
+                    };
+                    lits = lits-stay d ws w x y (λ j h. entry-stay ws w (λ i g. rest i (omega arith)) j) (s .lits);
+                    made = exchange-made n m Sheet kept d x y k (s .R) (s .β) (s .S) (s .known) (s .truth) (s .made) p u l mu ru du ku kp;
+                  }
 
 -- ---- a literal is taken
 abbrev varOf : ℕ → ℕ
@@ -219,8 +226,23 @@ module _ (n m : ℕ) (Sheet : ℕ → Row) (kept : ℕ → Bool) (d : ℕ) (x : 
   pub step-made : (w : List ℕ) (ans : ℕ) → length w ≡ length ws → Stepped k d code ws w ans → Outcome n m Sheet kept d x y k (varOf code) (valOf code) w ans
   step-made w ans len (held e f) = was-held (facts .0 (sym (known-bit n m Sheet kept d x y k ws s (varOf code) mv) ∙ e) (sym (truth-bit n m Sheet kept d x y k ws s (varOf code) mv) ∙ f)) s
   step-made w ans len (conflict e f) = was-conflict (facts .1 (sym (known-bit n m Sheet kept d x y k ws s (varOf code) mv) ∙ e) (λ z. f (truth-bit n m Sheet kept d x y k ws s (varOf code) mv ∙ z))) s
-  step-made w ans len (refused e f) = absurd (false≢true (freed n m Sheet kept d x y k ws s (varOf code) mv (sym (known-bit n m Sheet kept d x y k ws s (varOf code) mv) ∙ e) ws false refl f .0))
-  step-made w ans len (taken u v w₁ e f lu rc re) =
-      let un = sym (known-bit n m Sheet kept d x y k ws s (varOf code) mv) ∙ e in
-      let r = freed n m Sheet kept d x y k ws s (varOf code) mv un u true lu f .1 in
-      was-taken (facts .2 un) (facts .3 un) (take-made n m Sheet kept d x y k u code mv r v _ rc (len ∙ sym lu) re)
+  step-made w ans len (refused e f) = absurd (none f)
+    where
+      none : Took k d code ws ws false → ⊥
+      none (stuck p l f q z) = never-stuck n m Sheet kept d x y k ws s (varOf code) mv (sym (known-bit n m Sheet kept d x y k ws s (varOf code) mv) ∙ e) p l f q
+  step-made w ans len (taken w₁ e f) = was-taken (facts .2 un) (facts .3 un) (go f)
+    where
+      un : s .known (varOf code) ≡ false
+      un = sym (known-bit n m Sheet kept d x y k ws s (varOf code) mv) ∙ e
+
+      go : Took k d code ws w true → MadeAt w n m Sheet kept (suc d) (with-at x d (varOf code)) (with-bool y d (valOf code)) k
+      go (followed v f rc fo) = take-made n m Sheet kept d x y k ws code mv (free-at n m Sheet kept d x y k ws s (varOf code) mv un f) v w rc len fo
+      go (turned p u v l f q pos rc tu) = take-made n m Sheet kept d x y k (a .exchanged) code mv (moved-at n m Sheet kept d x y k ws s (varOf code) mv un p l f u (a .exchanged) (a .long) q pos (a .move)) (a .recorded) w (a .entry) (len ∙ sym (a .long)) (a .values)
+        where
+          a : Apart k p u (varOf code - 1) (valOf code) d code ws w
+          a =
+              let lo = mv .low in
+              let hi = mv .high in
+              let c = s .vars in
+              turned-apart k p u (varOf code - 1) (valOf code) d code ws v w (s .few) l (partner-high ws p _ u q) (omega arith) (s .room) len
+              (in-no-other n m Sheet kept d x y k ws s (varOf code) mv un p l f) (in-row n m Sheet kept d x y k ws s (varOf code) mv un p l f) rc tu

@@ -2,10 +2,14 @@
 --   RowCleared p i r ws w    row p has been added to row r, if that is another and has variable i + 1
 --   Span Step a b ws w       the steps a .. b - 1 one after another, as a chain goes on
 --   Partner ws r p x         x is the lowest variable of row r that has no value and is not p + 1, or 0 where there is none
+--   First ws k p x           x is the first row below k that has variable p + 1, or k
 --   Absent ws k v            no row below k has variable v, or one has it in which another is basic
 --   Found ws k v x           x is a row below k whose basic variable is v; or it is k, and v is absent
+--   pointed p u ws           the buffer with u as the basic variable of row p
 --   Exchanged k p u ws w     variable u has been removed from the rows below k but p, and is basic in row p
---   Freed k v ws w x         v is basic in no row, or has been exchanged (x true), or cannot be (x false)
+--   RowTurned p u r ws w     row p has been added to row r, if that has variable u, and row r has then been settled; row p itself has been pointed to u and settled
+--   Turned k p u q b ws w    variable q + 1 has been given the value b, and the rows below k have been turned, one after another
+--   Took k d code ws w x     a literal without a value: its variable was not basic, or has been exchanged, and it is taken (x true); or it cannot be (x false)
 --   Stepped k d code ws w x  what a literal does, with the answer x: 0 held, 1 conflict, 2 taken, 12 refused
 --   Outcome                  the same for a state of the module: what the definitions give, and the state afterwards
 -- Assumes nothing.
@@ -23,7 +27,7 @@ use Rattle.words.specs.Words.{bitAt}
 use Rattle.tableau.specs.Layout.{maxVars, rowAt, lastAt, knownAt, truthAt}
 use Rattle.tableau.specs.Buffer.{basicAt, Added, Recorded, Chain}
 use Rattle.tableau.specs.View.{MadeAt}
-use Rattle.settle.specs.Values.{lacks, Followed}
+use Rattle.settle.specs.Values.{lacks, Put, RowSettled, Without, Followed}
 
 abbrev pub RowCleared : (p i : ℕ) → ℕ → List ℕ → List ℕ → Type 0
 RowCleared p i r ws w = ((w ≡ ws) × ((r ≡ p) ⊎ (bitAt ws (rowAt r) i ≡ false))) ⊎ ((r ≢ p) × (bitAt ws (rowAt r) i ≡ true) × Added p r ws w)
@@ -36,6 +40,11 @@ pub record Partner (ws : List ℕ) (r p x : ℕ) : Type 0 where
   pub some : (i : ℕ) → x ≡ suc i → (i < maxVars) × (i ≢ p) × (lacks ws r i ≡ true)
   pub least : (i : ℕ) → suc i < x → i ≢ p → lacks ws r i ≡ false
 
+pub record First (ws : List ℕ) (k p x : ℕ) : Type 0 where
+  pub upto : x ≤ k
+  pub before : Without ws x p
+  pub here : x < k → bitAt ws (rowAt x) p ≡ true
+
 abbrev pub Absent : List ℕ → ℕ → ℕ → Type 0
 Absent ws k v = ((r : ℕ) → r < k → bitAt ws (rowAt r) (v - 1) ≡ false) ⊎ ((r : ℕ) × (r < k) × (bitAt ws (rowAt r) (v - 1) ≡ true) × (basicAt ws r ≢ v))
 
@@ -44,22 +53,35 @@ pub record Found (ws : List ℕ) (k v x : ℕ) : Type 0 where
   pub here : x < k → basicAt ws x ≡ v
   pub none : x ≡ k → Absent ws k v
 
+abbrev pub pointed : ℕ → ℕ → List ℕ → List ℕ
+pointed p u ws = set ws (lastAt p) (2 * u + getD ws (lastAt p) 0 % 2)
+
 pub record Exchanged (k p u : ℕ) (ws w : List ℕ) : Type 0 where
   pub middle : List ℕ
   pub cleared : Chain (RowCleared p (u - 1)) k ws middle
   pub long : length middle ≡ length ws
-  pub pointed : w ≡ set middle (lastAt p) (2 * u + getD middle (lastAt p) 0 % 2)
+  pub points : w ≡ pointed p u middle
 
-pub data Freed (k v : ℕ) (ws : List ℕ) : List ℕ → Bool → Type 0 where
-  free : Found ws k v k → Freed k v ws ws true
-  stuck : (p : ℕ) → p < k → Found ws k v p → Partner ws p (v - 1) 0 → Freed k v ws ws false
-  moved : (p u : ℕ) (w : List ℕ) → p < k → Found ws k v p → Partner ws p (v - 1) u → 0 < u → Exchanged k p u ws w → Freed k v ws w true
+pub data RowTurned (p u r : ℕ) (ws w : List ℕ) : Type 0 where
+  idle : r ≢ p → bitAt ws (rowAt r) (u - 1) ≡ false → w ≡ ws → RowTurned p u r ws w
+  added : (v : List ℕ) → r ≢ p → bitAt ws (rowAt r) (u - 1) ≡ true → Added p r ws v → RowSettled r v w → RowTurned p u r ws w
+  centre : r ≡ p → RowSettled r (pointed r u ws) w → RowTurned p u r ws w
+
+pub record Turned (k p u q : ℕ) (b : Bool) (ws w : List ℕ) : Type 0 where
+  pub begun : List ℕ
+  pub given : Put q b ws begun
+  pub turned : Chain (RowTurned p u) k begun w
+
+pub data Took (k d code : ℕ) (ws w : List ℕ) : Bool → Type 0 where
+  followed : (v : List ℕ) → Found ws k (code / 2) k → Recorded d code ws v → Followed k (code / 2 - 1) (eqb (code % 2) 0) v w → Took k d code ws w true
+  turned : (p u : ℕ) (v : List ℕ) → p < k → Found ws k (code / 2) p → Partner ws p (code / 2 - 1) u → 0 < u → Recorded d code ws v → Turned k p u (code / 2 - 1) (eqb (code % 2) 0) v w → Took k d code ws w true
+  stuck : (p : ℕ) → p < k → Found ws k (code / 2) p → Partner ws p (code / 2 - 1) 0 → w ≡ ws → Took k d code ws w false
 
 pub data Stepped (k d code : ℕ) (ws : List ℕ) : List ℕ → ℕ → Type 0 where
   held : bitAt ws knownAt (code / 2 - 1) ≡ true → bitAt ws truthAt (code / 2 - 1) ≡ eqb (code % 2) 0 → Stepped k d code ws ws 0
   conflict : bitAt ws knownAt (code / 2 - 1) ≡ true → bitAt ws truthAt (code / 2 - 1) ≢ eqb (code % 2) 0 → Stepped k d code ws ws 1
-  refused : bitAt ws knownAt (code / 2 - 1) ≡ false → Freed k (code / 2) ws ws false → Stepped k d code ws ws 12
-  taken : (u v w : List ℕ) → bitAt ws knownAt (code / 2 - 1) ≡ false → Freed k (code / 2) ws u true → length u ≡ length ws → Recorded d code u v → Followed k (code / 2 - 1) (eqb (code % 2) 0) v w → Stepped k d code ws w 2
+  refused : bitAt ws knownAt (code / 2 - 1) ≡ false → Took k d code ws ws false → Stepped k d code ws ws 12
+  taken : (w : List ℕ) → bitAt ws knownAt (code / 2 - 1) ≡ false → Took k d code ws w true → Stepped k d code ws w 2
 
 pub data Outcome (n m : ℕ) (Sheet : ℕ → Row) (kept : ℕ → Bool) (d : ℕ) (x : ℕ → ℕ) (y : ℕ → Bool) (k v : ℕ) (b : Bool) (w : List ℕ) : ℕ → Type 0 where
   was-held : Implied n m Sheet (Literals d x y) v b → MadeAt w n m Sheet kept d x y k → Outcome n m Sheet kept d x y k v b w 0

@@ -1,5 +1,7 @@
 // Assuming: a basic variable is exchanged, and the literal is taken.
 use settle::follow;
+use settle::put;
+use settle::settle_row;
 use tableau::KNOWN;
 use tableau::LAST;
 use tableau::ROW;
@@ -9,11 +11,12 @@ use tableau::set_entry;
 use words::bit;
 use words::own;
 ghost use mathlib.Core.Logic.{_≢_, _⊎_};
+ghost use mathlib.Core.Path.{_≡_};
 ghost use Prim.Native.Nat.{_+_, _*_, _-_, _<_, _≤_};
 ghost use lib.ListN.{length};
 ghost use Rattle.tableau.specs.Layout.{maxVars, maxRows, maxTaken, size};
 ghost use Rattle.tableau.specs.Buffer.{Chain};
-ghost use Rattle.exchange.specs.Steps.{RowCleared, Span, Partner, Found, Exchanged, Freed, Stepped};
+ghost use Rattle.exchange.specs.Steps.{RowCleared, Span, Partner, First, Found, pointed, Exchanged, RowTurned, Turned, Took, Stepped};
 
 // Row p is added into row r, which is another, if that has the variable v.
 pub fn clear_row(work: &mut [u64], p: usize, v: usize, r: usize)
@@ -72,20 +75,50 @@ pub fn partner(work: &[u64], r: usize, v: usize) -> usize
     found
 }
 
-// The row below k whose basic variable is v, or k. A basic variable stands in no other row, so the first row that has v decides.
-pub fn find(work: &[u64], k: usize, v: usize) -> usize
+// The first row below k that has the variable v, or k.
+pub fn first(work: &[u64], k: usize, v: usize) -> usize
     requires { ⌜ (size ≤ length (now work)) × (k ≤ maxRows) × (0 < v) × (v ≤ maxVars) ⌝ }
-    ensures { λ x. ⌜ Found (now (work .entry)) k v x ⌝ }
+    ensures { λ x. ⌜ First (now (work .entry)) k (v - 1) x ⌝ }
 {
     let mut r = 0;
     while r < k {
         if bit(work, ROW * r, v) {
-            let basic = work[ROW * r + LAST] / 2;
-            return if basic == v as u64 { r } else { k };
+            return r;
         }
         r += 1;
     }
     k
+}
+
+// The row below k whose basic variable is v, or k. A basic variable stands in no other row, so the first row a that has v decides.
+pub fn own_row(work: &[u64], k: usize, v: usize, a: usize) -> usize
+    requires { ⌜ (size ≤ length (now work)) × (k ≤ maxRows) × First (now work) k (v - 1) a ⌝ }
+    ensures { λ x. ⌜ Found (now (work .entry)) k v x ⌝ }
+{
+    if a == k {
+        return k;
+    }
+    let basic = work[ROW * a + LAST] / 2;
+    if basic == v as u64 { a } else { k }
+}
+
+// The row below k whose basic variable is v, or k.
+pub fn find(work: &[u64], k: usize, v: usize) -> usize
+    requires { ⌜ (size ≤ length (now work)) × (k ≤ maxRows) × (0 < v) × (v ≤ maxVars) ⌝ }
+    ensures { λ x. ⌜ Found (now (work .entry)) k v x ⌝ }
+{
+    let a = first(work, k, v);
+    own_row(work, k, v, a)
+}
+
+// Variable u is the basic variable of row p.
+pub fn point(work: &mut [u64], p: usize, u: usize)
+    requires { ⌜ (size ≤ length (now work)) × (p < maxRows) × (u ≤ maxVars) ⌝ }
+    ensures { λ _. ⌜ now (work .exit) ≡ pointed p u (now (work .entry)) ⌝ }
+{
+    let at = ROW * p + LAST;
+    let x = work[at] % 2;
+    work[at] = 2 * (u as u64) + x;
 }
 
 // Variable u becomes basic in row p.
@@ -94,25 +127,64 @@ pub fn exchange(work: &mut [u64], k: usize, p: usize, u: usize)
     ensures { λ _. ⌜ Exchanged k p u (now (work .entry)) (now (work .exit)) ⌝ }
 {
     clear_rows(work, k, p, u);
-    let at = ROW * p + LAST;
-    let x = work[at] % 2;
-    work[at] = 2 * (u as u64) + x;
+    point(work, p, u);
 }
 
-// Variable v is made non-basic, if it can be.
-pub fn free_up(work: &mut [u64], k: usize, v: usize) -> bool
-    requires { ⌜ (size ≤ length (now work)) × (k ≤ maxRows) × (0 < v) × (v ≤ maxVars) ⌝ }
-    ensures { λ x. ⌜ Freed k v (now (work .entry)) (now (work .exit)) x ⌝ }
+// Row p is added into row r, which is another, if that has the variable u; row r then gives its basic variable a value, if it does.
+pub fn turn_row(work: &mut [u64], p: usize, u: usize, r: usize)
+    requires { ⌜ (size ≤ length (now work)) × (p < maxRows) × (r < maxRows) × (0 < u) × (u ≤ maxVars) × (r ≢ p) ⌝ }
+    ensures { λ _. ⌜ RowTurned p u r (now (work .entry)) (now (work .exit)) ⌝ }
 {
-    let p = find(work, k, v);
+    if bit(work, ROW * r, u) {
+        add_row(work, p, r);
+        settle_row(work, r);
+    }
+}
+
+// The same for each row from a to below b, among which row p is not.
+pub fn turn_span(work: &mut [u64], a: usize, b: usize, p: usize, u: usize)
+    requires { ⌜ (size ≤ length (now work)) × (a ≤ b) × (b ≤ maxRows) × (p < maxRows) × (0 < u) × (u ≤ maxVars) × ((b ≤ p) ⊎ (p < a)) ⌝ }
+    ensures { λ _. ⌜ Span (RowTurned p u) a b (now (work .entry)) (now (work .exit)) ⌝ }
+{
+    let mut q = a;
+    while q < b {
+        turn_row(work, p, u, q);
+        q += 1;
+    }
+}
+
+// Variable v, basic in row p, gets the value b, and u becomes basic in row p: an exchange and the settling in one pass, since v is then in the rows that change and in no other.
+pub fn turn(work: &mut [u64], k: usize, p: usize, u: usize, v: usize, b: bool)
+    requires { ⌜ (size ≤ length (now work)) × (k ≤ maxRows) × (p < k) × (0 < u) × (u ≤ maxVars) × (0 < v) × (v ≤ maxVars) ⌝ }
+    ensures { λ _. ⌜ Turned k p u (v - 1) b (now (work .entry)) (now (work .exit)) ⌝ }
+{
+    put(work, v, b);
+    turn_span(work, 0, p, p, u);
+    point(work, p, u);
+    settle_row(work, p);
+    turn_span(work, p + 1, k, p, u);
+}
+
+// A literal whose variable has no value is taken at depth d, if it can be.
+pub fn take(work: &mut [u64], k: usize, d: usize, code: usize) -> bool
+    requires { ⌜ (size ≤ length (now work)) × (k ≤ maxRows) × (d < maxTaken) × (2 ≤ code) × (code < 2 * maxVars + 2) ⌝ }
+    ensures { λ x. ⌜ Took k d code (now (work .entry)) (now (work .exit)) x ⌝ }
+{
+    let v = code / 2;
+    let b = code % 2 == 0;
+    let a = first(work, k, v);
+    let p = own_row(work, k, v, a);
     if p == k {
+        set_entry(work, d, code as u64);
+        follow(work, a, k, v, b);
         return true;
     }
     let u = partner(work, p, v);
     if u == 0 {
         return false;
     }
-    exchange(work, k, p, u);
+    set_entry(work, d, code as u64);
+    turn(work, k, p, u, v, b);
     true
 }
 
@@ -122,17 +194,11 @@ pub fn step(work: &mut [u64], k: usize, d: usize, code: usize) -> u64
     ensures { λ x. ⌜ Stepped k d code (now (work .entry)) (now (work .exit)) x ⌝ }
 {
     let v = code / 2;
-    let b = code % 2 == 0;
     if bit(work, KNOWN, v) {
-        if bit(work, TRUTH, v) == b {
+        if bit(work, TRUTH, v) == (code % 2 == 0) {
             return 0;
         }
         return 1;
     }
-    if free_up(work, k, v) {
-        set_entry(work, d, code as u64);
-        follow(work, k, v, b);
-        return 2;
-    }
-    12
+    if take(work, k, d, code) { 2 } else { 12 }
 }

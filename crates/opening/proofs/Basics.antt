@@ -57,13 +57,13 @@ basics-exchanged k u ws w big lk lo hi ex b = at-or-not (suc k) k (λ r. (0 < ba
     here = let e = last-word in (omega arith, omega arith)
       where
         last-word : getD w (lastAt k) 0 ≡ 2 * u + getD (ex .middle) (lastAt k) 0 % 2
-        last-word = ap (λ (l : List ℕ). getD l (lastAt k) 0) (ex .pointed) ∙ getD-set-same (ex .middle) (lastAt k) _ 0 (omega (arith, ex .long))
+        last-word = ap (λ (l : List ℕ). getD l (lastAt k) 0) (ex .points) ∙ getD-set-same (ex .middle) (lastAt k) _ 0 (omega (arith, ex .long))
 
     other : (r : ℕ) → r < suc k → r ≢ k → (0 < basicAt w r) × (basicAt w r ≤ maxVars)
     other r l d = rw same-basic (b r (below k r l d))
       where
         same-basic : basicAt w r ≡ basicAt ws r
         same-basic =
-            ap (λ (l : List ℕ). basicAt l r) (ex .pointed)
+            ap (λ (l : List ℕ). basicAt l r) (ex .points)
             ∙ ap (λ (x : ℕ). x / 2) (getD-set-other (ex .middle) (lastAt k) (lastAt r) _ 0 (λ (z : lastAt r ≡ lastAt k). d (omega arith)))
             ∙ basic-cleared k _ (k + 1) ws (ex .middle) (ex .cleared) r

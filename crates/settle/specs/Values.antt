@@ -1,5 +1,6 @@
 -- HOW VARIABLES GET VALUES, on every buffer: from the record, and from rows all of whose other variables have one.
 --   lacks ws r i          row r has variable i + 1, which has no value
+--   Overlay k ws r x      each one in the word x stands where one of the first k words of row r has a variable without a value
 --   Full ws r p x         whether variable p + 1 is the one variable of row r without a value
 --   Put p b ws w          variable p + 1 has been given the value b
 --   valueAt ws r          the value that makes row r hold; Can: the row gives it to its basic variable
@@ -8,6 +9,7 @@
 --   Entry, EntrySet       an entry of the record that is a literal; its variable has been given its value
 --   Restarted k d ws w    the values have been made anew from the first d entries and the first k rows
 --   RowFollowed p r ws w  row r has been settled, if it has variable p + 1
+--   Without ws a p        no row below a has variable p + 1
 --   Followed k p b ws w   variable p + 1 has been given the value b, and the rows below k that have it have been settled
 -- Assumes nothing.
 use mathlib.Core.Path.{_≡_}
@@ -18,12 +20,15 @@ use Prim.Native.Nat.{ℕ, _+_, _*_, _-_, _/_, _%_, _<_, _≤_}
 use lib.ListN.{length, getD}
 use lib.Dec.{eqb}
 use Rattle.gf2.specs.Field.{_⊕_, xsum, same}
-use Rattle.words.specs.Words.{bitAt}
+use Rattle.words.specs.Words.{bitOf, bitAt}
 use Rattle.tableau.specs.Layout.{maxVars, rowAt, knownAt, truthAt, recordAt}
 use Rattle.tableau.specs.Buffer.{Run, basicAt, parityAt, entryAt, Chain}
 
 unfoldable pub lacks : List ℕ → ℕ → ℕ → Bool
 lacks ws r i = bitAt ws (rowAt r) i ⊕ (bitAt ws (rowAt r) i && bitAt ws knownAt i)
+
+abbrev pub Overlay : ℕ → List ℕ → ℕ → ℕ → Type 0
+Overlay k ws r x = (t : ℕ) → t < 64 → bitOf x (63 - t) ≡ true → (j : ℕ) × (j < k) × (lacks ws r (j * 64 + t) ≡ true)
 
 pub record Full (ws : List ℕ) (r p : ℕ) (x : Bool) : Type 0 where
   pub yes : x ≡ true → (i : ℕ) → i < maxVars → lacks ws r i ≡ same p i
@@ -66,6 +71,9 @@ pub record Restarted (k d : ℕ) (ws w : List ℕ) : Type 0 where
 
 abbrev pub RowFollowed : ℕ → ℕ → List ℕ → List ℕ → Type 0
 RowFollowed p r ws w = ((w ≡ ws) × (bitAt ws (rowAt r) p ≡ false)) ⊎ ((bitAt ws (rowAt r) p ≡ true) × RowSettled r ws w)
+
+abbrev pub Without : List ℕ → ℕ → ℕ → Type 0
+Without ws a p = (r : ℕ) → r < a → bitAt ws (rowAt r) p ≡ false
 
 pub record Followed (k p : ℕ) (b : Bool) (ws w : List ℕ) : Type 0 where
   pub begun : List ℕ

@@ -13,9 +13,9 @@ use words::own;
 ghost use mathlib.Core.Path.{_≡_};
 ghost use Prim.Native.Nat.{_-_, _<_, _≤_};
 ghost use lib.ListN.{length};
-ghost use Rattle.tableau.specs.Layout.{maxVars, maxRows, maxTaken, knownAt, size};
+ghost use Rattle.tableau.specs.Layout.{coefWords, maxVars, maxRows, maxTaken, knownAt, size};
 ghost use Rattle.tableau.specs.Buffer.{Run, Chain};
-ghost use Rattle.settle.specs.Values.{Full, Put, valueAt, Ready, RowSettled, EntrySet, Restarted, RowFollowed, Followed};
+ghost use Rattle.settle.specs.Values.{Overlay, Full, Put, valueAt, Ready, RowSettled, EntrySet, Restarted, RowFollowed, Without, Followed};
 
 // Variable v gets the value b.
 pub fn put(work: &mut [u64], v: usize, b: bool)
@@ -32,8 +32,25 @@ pub fn put(work: &mut [u64], v: usize, b: bool)
     work[t] = work[t] | bit;
 }
 
-// Whether v is the one variable of row r without a value.
-pub fn full(work: &[u64], r: usize, v: usize) -> bool
+// The variables of row r without a value, its eight words laid over one another.
+pub fn overlay(work: &[u64], r: usize) -> u64
+    requires { ⌜ (size ≤ length (now work)) × (r < maxRows) ⌝ }
+    ensures { λ x. ⌜ Overlay coefWords (now (work .entry)) r x ⌝ }
+{
+    let a = ROW * r;
+    let mut over = 0;
+    let mut j = 0;
+    while j < 8 {
+        let x = work[a + j];
+        let y = x ^ (x & work[KNOWN + j]);
+        over = over | y;
+        j += 1;
+    }
+    over
+}
+
+// Whether v is the one variable of row r without a value, word by word.
+pub fn alone(work: &[u64], r: usize, v: usize) -> bool
     requires { ⌜ (size ≤ length (now work)) × (r < maxRows) × (0 < v) × (v ≤ maxVars) ⌝ }
     ensures { λ x. ⌜ Full (now (work .entry)) r (v - 1) x ⌝ }
 {
@@ -49,6 +66,19 @@ pub fn full(work: &[u64], r: usize, v: usize) -> bool
         j += 1;
     }
     true
+}
+
+// Whether v is the one variable of row r without a value. Most rows have another at another place of its word, which one test tells.
+pub fn full(work: &[u64], r: usize, v: usize) -> bool
+    requires { ⌜ (size ≤ length (now work)) × (r < maxRows) × (0 < v) × (v ≤ maxVars) ⌝ }
+    ensures { λ x. ⌜ Full (now (work .entry)) r (v - 1) x ⌝ }
+{
+    let over = overlay(work, r);
+    let mine = own(v, (v - 1) / 64);
+    if over ^ (over & mine) != 0 {
+        return false;
+    }
+    alone(work, r, v)
 }
 
 // The value that row r gives its basic variable, which counts as false so far.
@@ -158,13 +188,13 @@ pub fn follow_row(work: &mut [u64], v: usize, r: usize)
     }
 }
 
-// Variable v gets the value b, and each row below k that has it gives its basic variable a value, if it does.
-pub fn follow(work: &mut [u64], k: usize, v: usize, b: bool)
-    requires { ⌜ (size ≤ length (now work)) × (k ≤ maxRows) × (0 < v) × (v ≤ maxVars) ⌝ }
+// Variable v gets the value b, and each row below k that has it gives its basic variable a value, if it does. No row below a has it.
+pub fn follow(work: &mut [u64], a: usize, k: usize, v: usize, b: bool)
+    requires { ⌜ (size ≤ length (now work)) × (a ≤ k) × (k ≤ maxRows) × (0 < v) × (v ≤ maxVars) × Without (now work) a (v - 1) ⌝ }
     ensures { λ _. ⌜ Followed k (v - 1) b (now (work .entry)) (now (work .exit)) ⌝ }
 {
     put(work, v, b);
-    let mut r = 0;
+    let mut r = a;
     while r < k {
         follow_row(work, v, r);
         r += 1;

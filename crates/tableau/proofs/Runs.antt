@@ -2,13 +2,13 @@
 --   run-none, run-more      nothing written yet; one word more
 --   run-reads               words copied to the front of a list; reads-at: from an equal place
 --   reads-bit, reads-sum    their bits, and the sum of the bits that two such lists share
---   chain-more              one step more
+--   chain-more              one step more; chain-idle: steps that change nothing
 -- Assumes nothing.
 use mathlib.Core.Path.{_≡_, refl, sym, ap, ap₂, _∙_}
 use mathlib.Core.List.{List}
 use mathlib.Core.Bool.{_&&_}
 use mathlib.Core.Logic.{_⊎_, inl, inr}
-use Prim.Native.Nat.{ℕ, _+_, _*_, _/_, _<_, _≤_}
+use Prim.Native.Nat.{ℕ, zero, suc, _+_, _*_, _/_, _<_, _≤_}
 use native.Mathlib.Nat.{not-suc-le-zero, zero-add}
 use native.Mathlib.Numerals.{add-one}
 use native.Mathlib.Omega.{arith}
@@ -51,3 +51,7 @@ reads-sum k a b ws x y f g = sum-cong (k * 64) _ _ (λ i l. ap₂ _&&_ (reads-bi
 
 pub chain-more : (Step : ℕ → List ℕ → List ℕ → Type 0) (r : ℕ) (ws v w : List ℕ) → length v ≡ length ws → Chain Step r ws v → Step r v w → Chain Step (r + 1) ws w
 chain-more Step r ws v w e h s = rw (add-one r) (v, e, h, s)
+
+pub chain-idle : (Step : ℕ → List ℕ → List ℕ → Type 0) (k : ℕ) (ws : List ℕ) → ((r : ℕ) → r < k → Step r ws ws) → Chain Step k ws ws
+chain-idle Step zero ws h = refl
+chain-idle Step (suc k) ws h = (ws, refl, chain-idle Step k ws (λ r l. h r (omega arith)), h k (omega arith))

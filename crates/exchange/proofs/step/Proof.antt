@@ -25,28 +25,21 @@ same-length-2 c = search needs
 returns-2 : tie.Need-returns-2
 returns-2 c = conflict (sym (c .before .before .before .before .bit .ensures) ∙ c .before .before .before .if1 .taken) (λ z. beq-other _ _ (c .if2 .left) (c .before .bit2 .ensures ∙ z))
 
-free-up-requires : tie.Need-free-up-requires
-free-up-requires c κs = search needs
-
-set-entry-requires : tie.Need-set-entry-requires
-set-entry-requires c κs = search needs
-
-follow-requires : tie.Need-follow-requires
-follow-requires c κs = search needs
+take-requires : tie.Need-take-requires
+take-requires c κs = search needs
 
 same-length-3 : tie.Need-same-length-3
 same-length-3 c = search needs
 
 returns-3 : tie.Need-returns-3
-returns-3 c = let f = c .before .before .before .before .before .before .before .before .before .before .before .free-up in
-    let s = c .before .before .before .before .before .before .set-entry in
-    taken (f .last .0) (s .last .0) _ (sym (c .before .before .before .before .before .before .before .before .before .before .before .before .before .before .bit .ensures) ∙ c .before .before .before .before .before .before .before .before .before .before .before .before .before .if1 .left) (rw (c .before .before .before .before .before .before .before .before .if3 .taken) at (f .ensures)) (f .kept .0) (s .ensures) (c .before .before .follow .ensures)
+returns-3 c = taken _ (sym (c .before .before .before .before .before .before .bit .ensures) ∙ c .before .before .before .before .before .if1 .left) (rw (c .if3 .taken) at (c .before .before .before .take .ensures))
 
 same-length-4 : tie.Need-same-length-4
 same-length-4 c = search needs
 
 returns-4 : tie.Need-returns-4
-returns-4 c = refused-still _ _ _ _ _ (sym (c .before .before .before .before .before .before .bit .ensures) ∙ c .before .before .before .before .before .if1 .left) (rw (c .if3 .left) at (c .before .before .before .free-up .ensures))
+returns-4 c = let f = rw (c .if3 .left) at (c .before .before .before .take .ensures) in
+    refused-still _ _ _ _ _ (sym (c .before .before .before .before .before .before .bit .ensures) ∙ c .before .before .before .before .before .if1 .left) f
 
 pub step-spec : {M : Type 1} → statement M
 step-spec =
@@ -58,9 +51,7 @@ step-spec =
     returns
     same-length-2
     returns-2
-    free-up-requires
-    set-entry-requires
-    follow-requires
+    take-requires
     same-length-3
     returns-3
     same-length-4

@@ -1,0 +1,74 @@
+-- `settle::overlay` meets its contract.
+-- Assumes nothing.
+use mathlib.Core.Path.{_≡_}
+use Prim.Native.Nat.{_≤_, _-_}
+use native.Mathlib.Omega.{arith}
+use borrow.Author.Needs.{needs}
+use denote.Ref.{now}
+use Rattle.settle.specs.Values.{Overlay}
+use Rattle.settle.proofs.Testing.{overlay-none, overlay-more}
+use Rattle.settle.proofs.overlay.Statement.{statement}
+use Rattle.settle.proofs.overlay.Tie as tie
+
+abbrev Inv-loop : tie.InvT-loop
+Inv-loop work r a over₀ j₀ over j = (j ≤ 8) × Overlay j work r over
+
+abbrev μ-loop : tie.MeasureT-loop
+μ-loop work r a over₀ j₀ over j = 8 - j
+
+mul-a : tie.Need-mul-a Inv-loop μ-loop
+mul-a c = search needs
+
+loop-holds : tie.Need-loop-holds Inv-loop μ-loop
+loop-holds c = (omega arith, overlay-none _ _)
+
+add-x : tie.Need-add-x Inv-loop μ-loop
+add-x c = search needs
+
+mul-x : tie.Need-mul-x Inv-loop μ-loop
+mul-x c = search needs
+
+shared-slice-read-x : tie.Need-shared-slice-read-x Inv-loop μ-loop
+shared-slice-read-x c = search needs
+
+add-y : tie.Need-add-y Inv-loop μ-loop
+add-y c = search needs
+
+mul-y : tie.Need-mul-y Inv-loop μ-loop
+mul-y c = search needs
+
+shared-slice-read-y : tie.Need-shared-slice-read-y Inv-loop μ-loop
+shared-slice-read-y c = search needs
+
+add-j : tie.Need-add-j Inv-loop μ-loop
+add-j c = search needs
+
+loop-less : tie.Need-loop-less Inv-loop μ-loop
+loop-less c = search needs
+
+loop-again : tie.Need-loop-again Inv-loop μ-loop
+loop-again c = let a = c .before .before .before .before .args in
+    let l = c .before .before .before .loop in
+    (omega arith, overlay-more (now (a .work)) (a .r) (l .j) (l .over) (l .inv .1))
+
+returns : tie.Need-returns Inv-loop μ-loop
+returns c = let e : c .before .loop .j ≡ 8 = omega arith in rw e at (c .before .loop .inv .1)
+
+pub overlay-spec : {M : Type 1} → statement M
+overlay-spec =
+    tie.close
+    (tie.spec
+    Inv-loop
+    μ-loop
+    mul-a
+    loop-holds
+    add-x
+    mul-x
+    shared-slice-read-x
+    add-y
+    mul-y
+    shared-slice-read-y
+    add-j
+    loop-less
+    loop-again
+    returns)
