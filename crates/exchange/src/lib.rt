@@ -15,39 +15,7 @@ ghost use mathlib.Core.Path.{_≡_};
 ghost use Prim.Native.Nat.{_+_, _*_, _-_, _<_, _≤_};
 ghost use lib.ListN.{length};
 ghost use Rattle.tableau.specs.Layout.{maxVars, maxRows, maxTaken, size};
-ghost use Rattle.tableau.specs.Buffer.{Chain};
-ghost use Rattle.exchange.specs.Steps.{RowCleared, Span, Partner, First, Found, pointed, Exchanged, RowTurned, Turned, Took, Stepped};
-
-// Row p is added into row r, which is another, if that has the variable v.
-pub fn clear_row(work: &mut [u64], p: usize, v: usize, r: usize)
-    requires { ⌜ (size ≤ length (now work)) × (p < maxRows) × (r < maxRows) × (0 < v) × (v ≤ maxVars) × (r ≢ p) ⌝ }
-    ensures { λ _. ⌜ RowCleared p (v - 1) r (now (work .entry)) (now (work .exit)) ⌝ }
-{
-    if bit(work, ROW * r, v) {
-        add_row(work, p, r);
-    }
-}
-
-// Row p is added into each row from a to below b that has the variable v. Row p is not among them, so no turn asks for it.
-pub fn clear_span(work: &mut [u64], a: usize, b: usize, p: usize, v: usize)
-    requires { ⌜ (size ≤ length (now work)) × (a ≤ b) × (b ≤ maxRows) × (p < maxRows) × (0 < v) × (v ≤ maxVars) × ((b ≤ p) ⊎ (p < a)) ⌝ }
-    ensures { λ _. ⌜ Span (RowCleared p (v - 1)) a b (now (work .entry)) (now (work .exit)) ⌝ }
-{
-    let mut r = a;
-    while r < b {
-        clear_row(work, p, v, r);
-        r += 1;
-    }
-}
-
-// Row p is added into each other row below k that has the variable v.
-pub fn clear_rows(work: &mut [u64], k: usize, p: usize, v: usize)
-    requires { ⌜ (size ≤ length (now work)) × (k ≤ maxRows) × (p < k) × (0 < v) × (v ≤ maxVars) ⌝ }
-    ensures { λ _. ⌜ Chain (RowCleared p (v - 1)) k (now (work .entry)) (now (work .exit)) ⌝ }
-{
-    clear_span(work, 0, p, p, v);
-    clear_span(work, p + 1, k, p, v);
-}
+ghost use Rattle.exchange.specs.Steps.{Span, Partner, First, Found, pointed, RowTurned, Turned, Took, Stepped};
 
 // The lowest variable of row r that has no value and is not v, or 0. On a state of the module, where v is basic in row r, it is not basic.
 pub fn partner(work: &[u64], r: usize, v: usize) -> usize
@@ -119,15 +87,6 @@ pub fn point(work: &mut [u64], p: usize, u: usize)
     let at = ROW * p + LAST;
     let x = work[at] % 2;
     work[at] = 2 * (u as u64) + x;
-}
-
-// Variable u becomes basic in row p.
-pub fn exchange(work: &mut [u64], k: usize, p: usize, u: usize)
-    requires { ⌜ (size ≤ length (now work)) × (k ≤ maxRows) × (p < k) × (0 < u) × (u ≤ maxVars) ⌝ }
-    ensures { λ _. ⌜ Exchanged k p u (now (work .entry)) (now (work .exit)) ⌝ }
-{
-    clear_rows(work, k, p, u);
-    point(work, p, u);
 }
 
 // Row p is added into row r, which is another, if that has the variable u; row r then gives its basic variable a value, if it does.

@@ -1,5 +1,5 @@
 // Opening: the rows of the row store go into the working buffer, one after another.
-use exchange::exchange;
+use exchange::point;
 use settle::restart;
 use tableau::FROM;
 use tableau::LAST;
@@ -11,11 +11,14 @@ use tableau::words_at;
 use words::bit;
 use words::lowest;
 use words::own;
-ghost use Prim.Native.Nat.{_+_, _*_, _<_, _≤_};
+ghost use mathlib.Core.Path.{_≡_};
+ghost use mathlib.Core.Bool.{_||_};
+ghost use Prim.Native.Nat.{_+_, _-_, _*_, _%_, _<_, _≤_};
 ghost use lib.ListN.{length};
-ghost use Rattle.words.specs.Words.{ownWord};
-ghost use Rattle.tableau.specs.Layout.{fromWords, maxVars, maxRows, fromAt, size};
+ghost use Rattle.words.specs.Words.{bitAt, ownWord};
+ghost use Rattle.tableau.specs.Layout.{fromWords, maxVars, maxRows, rowAt, fromAt, size};
 ghost use Rattle.tableau.specs.Buffer.{basicAt, Run, Chain};
+ghost use Rattle.exchange.specs.Steps.{RowCleared, Span, Exchanged};
 ghost use Rattle.opening.specs.Opened.{Basics, Loaded, Reduced, RowDone, Answered};
 
 // The provenance of row k becomes row q of the sheet alone.
@@ -70,6 +73,71 @@ pub fn reduce(work: &mut [u64], k: usize)
     }
 }
 
+// Row k is added into row r, which is before it, if that has the variable v.
+pub fn clear_row(work: &mut [u64], k: usize, v: usize, r: usize)
+    requires { ⌜ (size ≤ length (now work)) × (k < maxRows) × (r < k) × (0 < v) × (v ≤ maxVars) ⌝ }
+    ensures { λ _. ⌜ RowCleared k (v - 1) r (now (work .entry)) (now (work .exit)) ⌝ }
+{
+    if bit(work, ROW * r, v) {
+        add_row(work, k, r);
+    }
+}
+
+// Whether row r or the next one has the variable v.
+pub fn in_two(work: &[u64], v: usize, r: usize) -> bool
+    requires { ⌜ (size ≤ length (now work)) × (r + 2 ≤ maxRows) × (0 < v) × (v ≤ maxVars) ⌝ }
+    ensures { λ x. ⌜ x ≡ (bitAt (now (work .entry)) (rowAt r) (v - 1) || bitAt (now (work .entry)) (rowAt (r + 1)) (v - 1)) ⌝ }
+{
+    let p = v - 1;
+    let a = ROW * r + p / 64;
+    let x = work[a] | work[a + ROW];
+    (x >> (63 - p % 64)) % 2 == 1
+}
+
+// Row k is added into row r and into the next one, if they have the variable v. Mostly neither has, which one test tells.
+pub fn clear_two(work: &mut [u64], k: usize, v: usize, r: usize)
+    requires { ⌜ (size ≤ length (now work)) × (k < maxRows) × (r + 2 ≤ k) × (0 < v) × (v ≤ maxVars) ⌝ }
+    ensures { λ _. ⌜ Span (RowCleared k (v - 1)) r (r + 2) (now (work .entry)) (now (work .exit)) ⌝ }
+{
+    if in_two(work, v, r) {
+        clear_row(work, k, v, r);
+        clear_row(work, k, v, r + 1);
+    }
+}
+
+// Row k is added into each row below f, an even number, that has the variable v.
+pub fn clear_twos(work: &mut [u64], k: usize, v: usize, f: usize)
+    requires { ⌜ (size ≤ length (now work)) × (k < maxRows) × (f ≤ k) × (f % 2 ≡ 0) × (0 < v) × (v ≤ maxVars) ⌝ }
+    ensures { λ _. ⌜ Chain (RowCleared k (v - 1)) f (now (work .entry)) (now (work .exit)) ⌝ }
+{
+    let mut q = 0;
+    while q < f {
+        clear_two(work, k, v, q);
+        q += 2;
+    }
+}
+
+// Row k is added into each row before it that has the variable v.
+pub fn clear_rows(work: &mut [u64], k: usize, v: usize)
+    requires { ⌜ (size ≤ length (now work)) × (k < maxRows) × (0 < v) × (v ≤ maxVars) ⌝ }
+    ensures { λ _. ⌜ Chain (RowCleared k (v - 1)) k (now (work .entry)) (now (work .exit)) ⌝ }
+{
+    let f = k / 2 * 2;
+    clear_twos(work, k, v, f);
+    if f < k {
+        clear_row(work, k, v, f);
+    }
+}
+
+// Variable u becomes basic in row k, the last, and is removed from the rows before it.
+pub fn enter(work: &mut [u64], k: usize, u: usize)
+    requires { ⌜ (size ≤ length (now work)) × (k < maxRows) × (0 < u) × (u ≤ maxVars) ⌝ }
+    ensures { λ _. ⌜ Exchanged (k + 1) k u (now (work .entry)) (now (work .exit)) ⌝ }
+{
+    clear_rows(work, k, u);
+    point(work, k, u);
+}
+
 // Row q of the row store goes in, with k rows kept so far: 0 it says nothing new, 1 it contradicts, 2 it is row k.
 pub fn open_row(work: &mut [u64], rows: &[u64], q: usize, k: usize) -> u64
     requires { ⌜ (size ≤ length (now work)) × (9 * q + 9 ≤ length (now rows)) × (q < maxRows) × (k < maxRows) × Basics k (now work) ⌝ }
@@ -79,7 +147,7 @@ pub fn open_row(work: &mut [u64], rows: &[u64], q: usize, k: usize) -> u64
     reduce(work, k);
     let u = lowest(load(work, k));
     if u != 0 {
-        exchange(work, k + 1, k, u);
+        enter(work, k, u);
         return 2;
     }
     work[ROW * k + LAST] % 2

@@ -2,7 +2,7 @@
 --   run-none, run-more      nothing written yet; one word more
 --   run-reads               words copied to the front of a list; reads-at: from an equal place
 --   reads-bit, reads-sum    their bits, and the sum of the bits that two such lists share
---   chain-more              one step more; chain-idle: steps that change nothing
+--   chain-more, chain-two   one step more, and two; chain-idle: steps that change nothing
 -- Assumes nothing.
 use mathlib.Core.Path.{_≡_, refl, sym, ap, ap₂, _∙_}
 use mathlib.Core.List.{List}
@@ -51,6 +51,9 @@ reads-sum k a b ws x y f g = sum-cong (k * 64) _ _ (λ i l. ap₂ _&&_ (reads-bi
 
 pub chain-more : (Step : ℕ → List ℕ → List ℕ → Type 0) (r : ℕ) (ws v w : List ℕ) → length v ≡ length ws → Chain Step r ws v → Step r v w → Chain Step (r + 1) ws w
 chain-more Step r ws v w e h s = rw (add-one r) (v, e, h, s)
+
+pub chain-two : (Step : ℕ → List ℕ → List ℕ → Type 0) (r : ℕ) (ws u v w : List ℕ) → length u ≡ length ws → length v ≡ length ws → Chain Step r ws u → Step r u v → Step (r + 1) v w → Chain Step (r + 2) ws w
+chain-two Step r ws u v w eu ev h s t = let e : r + 2 ≡ r + 1 + 1 = omega arith in rw e (chain-more Step (r + 1) ws v w ev (chain-more Step r ws u v eu h s) t)
 
 pub chain-idle : (Step : ℕ → List ℕ → List ℕ → Type 0) (k : ℕ) (ws : List ℕ) → ((r : ℕ) → r < k → Step r ws ws) → Chain Step k ws ws
 chain-idle Step zero ws h = refl

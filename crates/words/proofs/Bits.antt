@@ -4,7 +4,7 @@
 --   pow-bit, own-bit, own-lt        the words that have one bit alone
 --   word-xor, length-xor, bits-sum  the sum of words, word by word and bit by bit
 --   bit-in, bit-same, bit-added     a bit by its word and its place there; words read elsewhere
---   bit-read, own-here, own-away    one bit as the code reads it, and as it makes it
+--   bit-read, own-here, own-away    one bit as the code reads it, and as it makes it; either-read: one of two
 --   bit-front                       a bit of the words at the front of a list
 --   lowest-none, lowest-found       the lowest variable, as the count of leading zeros finds it
 -- Assumes nothing.
@@ -179,6 +179,13 @@ eqb-digit (suc (suc x)) h = absurd (omega arith)
 pub bit-read : (ws : List ℕ) (a p : ℕ) → eqb (getD ws (a + p / 64) 0 / 2 ^ (63 - p % 64) % 2) 1 ≡ bitAt ws a p
 unfolding bitAt
 bit-read ws a p = eqb-digit _ (mod-lt (getD ws (a + p / 64) 0 / 2 ^ (63 - p % 64)) (zero-lt-suc 1))
+
+pub either-read : (ws : List ℕ) (a b p : ℕ) → eqb (bitOr (getD ws (a + p / 64) 0) (getD ws (b + p / 64) 0) / 2 ^ (63 - p % 64) % 2) 1 ≡ (bitAt ws a p || bitAt ws b p)
+unfolding bitAt
+either-read ws a b p =
+    let x = getD ws (a + p / 64) 0 in
+    let y = getD ws (b + p / 64) 0 in
+    eqb-digit _ (mod-lt (bitOr x y / 2 ^ (63 - p % 64)) (zero-lt-suc 1)) ∙ bit-or x y (63 - p % 64)
 
 pub own-here : (v j : ℕ) → (v - 1) / 64 ≡ j → 1 * 2 ^ (63 - (v - 1) % 64) % 2 ^ 64 ≡ ownWord (v - 1) j
 unfolding ownWord

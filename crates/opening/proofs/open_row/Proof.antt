@@ -23,11 +23,8 @@ load-requires c κs = search needs
 lowest-requires : tie.Need-lowest-requires
 lowest-requires c κs = search needs
 
-add-exchange : tie.Need-add-exchange
-add-exchange c = search needs
-
-exchange-requires : tie.Need-exchange-requires
-exchange-requires c κs = search needs
+enter-requires : tie.Need-enter-requires
+enter-requires c κs = search needs
 
 same-length : tie.Need-same-length
 same-length c = search needs
@@ -37,7 +34,7 @@ returns c = let l = c .before .before .before .before .before .before .before .b
     let d = c .before .before .before .before .before .before .before .before .before .before .reduce in
     let u = c .before .before .before .before .before .lowest in
     let h : 0 < u .result = omega (arith, c .before .before .before .before .if1 .taken) in
-    one-more (l .last .0) (d .last .0) _ (u .result) (l .ensures) (d .ensures) (lowest-read _ _ _ _ (c .before .before .before .before .before .before .load .ensures) (u .ensures)) h (d .kept .0 ∙ l .kept .0) (c .before .before .exchange .ensures)
+    one-more (l .last .0) (d .last .0) _ (u .result) (l .ensures) (d .ensures) (lowest-read _ _ _ _ (c .before .before .before .before .before .before .load .ensures) (u .ensures)) h (d .kept .0 ∙ l .kept .0) (c .before .before .enter .ensures)
 
 mul-result : tie.Need-mul-result
 mul-result c = search needs
@@ -66,8 +63,7 @@ open-row-spec =
     reduce-requires
     load-requires
     lowest-requires
-    add-exchange
-    exchange-requires
+    enter-requires
     same-length
     returns
     mul-result

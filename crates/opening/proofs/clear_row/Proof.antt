@@ -1,10 +1,12 @@
--- `exchange::clear_row` meets its contract.
+-- `opening::clear_row` meets its contract.
 -- Assumes nothing.
 use mathlib.Core.Logic.{inl, inr}
-use mathlib.Core.Path.{refl, sym, _∙_}
+use mathlib.Core.Path.{_≡_, refl, sym, _∙_}
+use Prim.Native.Nat.{ℕ, _<_}
+use native.Mathlib.Omega.{arith}
 use borrow.Author.Needs.{needs}
-use Rattle.exchange.proofs.clear_row.Statement.{statement}
-use Rattle.exchange.proofs.clear_row.Tie as tie
+use Rattle.opening.proofs.clear_row.Statement.{statement}
+use Rattle.opening.proofs.clear_row.Tie as tie
 
 mul-bit : tie.Need-mul-bit
 mul-bit c = search needs
@@ -18,8 +20,12 @@ add-row-requires c κs = search needs
 same-length : tie.Need-same-length
 same-length c = search needs
 
+other : (r k : ℕ) → r < k → r ≡ k → ⊥
+other r k l e = omega arith
+
 returns : tie.Need-returns
-returns c = let s = c .before .before .before .before .before .before .before .before in inr (s .pre .5, sym (c .before .before .before .before .before .bit .ensures) ∙ c .before .before .before .before .if1 .taken, c .before .before .add-row .ensures)
+returns c = let s = c .before .before .before .before .before .before .before .before in
+    inr (other _ _ (s .pre .2), sym (c .before .before .before .before .before .bit .ensures) ∙ c .before .before .before .before .if1 .taken, c .before .before .add-row .ensures)
 
 same-length-2 : tie.Need-same-length-2
 same-length-2 c = search needs
