@@ -1,30 +1,30 @@
--- THE SUM OF A ROW IS THE PARITY OF A COUNT OF ONES (document 01, "The row sheet"), with any number of words added into one.
+-- THE SUM OF A ROW IS THE PARITY OF A COUNT OF ONES (document 01, "The row sheet"), over any number of words.
 --   sum-append, sum-blocks, sum-back   sums cut in two, cut in blocks, from the other end, and turned round
 --   par                                          whether a number is odd
---   bits-par                                     the sum of the bits of a word is the parity of its ones
---   meet a b w                                   the ones that word w of a and word w of b share
---   words-sum                                    the sum of the bits that two lists of words share, word by word
---   Folded, fold-none, fold-more                 such words added into one, by a loop
+--   meet a b w                                   how many ones word w of a and word w of b share
+--   words-sum                                    the sum of the bits that two lists of words share, by these counts
+--   Counted, count-none, count-more              what a loop over the words has counted
 --   rows-sum                                     the sum of a row that one list of words reads as, under the assignment that another reads as
 -- Assumes nothing.
 use mathlib.Core.Path.{_≡_, refl, sym, ap, ap₂, _∙_}
 use mathlib.Core.Bool.{Bool, true, false, not, _&&_}
 use mathlib.Core.List.{List}
 use Prim.Native.Nat.{ℕ, zero, suc, _+_, _*_, _-_, _/_, _%_, _^_, _<_, _≤_}
-use native.Mathlib.Nat.{zero-lt-suc, mod-lt, suc-add, zero-add, add-comm, suc-mul, zero-mul, lt-of-le-of-lt, sub-zero, suc-sub-suc, div-one}
+use native.Mathlib.Nat.{not-suc-le-zero, zero-lt-suc, mod-lt, suc-add, zero-add, add-comm, suc-mul, zero-mul, lt-of-le-of-lt, sub-zero, suc-sub-suc, div-one}
 use native.Mathlib.Numerals.{add-one}
+use native.Mathlib.Decide.{decLt}
 use native.Mathlib.Omega.{arith}
 use lib.Arith.{lt-one}
 use lib.Dec.{eqb}
-use lib.Bits.{bitAnd, bitXor, xor-lt, and-le-l}
-use lib.Count.{ones, onesIn, ones-step}
+use lib.Bits.{bitAnd, and-le-l}
+use lib.Count.{ones, onesIn, ones-step, ones-le}
 use lib.ListN.{getD}
 use Rattle.gf2.specs.Field.{_⊕_, xsum}
 use Rattle.gf2.specs.Rows.{Row, Assignment, rowSum}
 use Rattle.gf2.proofs.Field.{xor-false, xor-comm, xor-assoc}
-use Rattle.gf2.proofs.Sums.{sum-last, sum-cong, sum-false, sum-xor}
+use Rattle.gf2.proofs.Sums.{sum-last, sum-cong, sum-false}
 use Rattle.words.specs.Words.{digit, bitOf, bitAt}
-use Rattle.words.proofs.Bits.{bit-xor, bit-and, bit-half, bit-front, zero-bits}
+use Rattle.words.proofs.Bits.{bit-and, bit-half, bit-front}
 
 pub sum-append : (m n : ℕ) (f : ℕ → Bool) → xsum (m + n) f ≡ xsum m f ⊕ xsum n (λ i. f (m + i))
 unfolding xsum
@@ -85,7 +85,7 @@ eqb-par (suc (suc n)) =
     not-not false = refl
 
 -- the sum of the bits of a word is the parity of its ones
-pub bits-par : (k w : ℕ) → w < 2 ^ k → xsum k (bitOf w) ≡ par (ones w)
+bits-par : (k w : ℕ) → w < 2 ^ k → xsum k (bitOf w) ≡ par (ones w)
 unfolding par ones onesIn xsum
 bits-par zero w h = rw (lt-one h)
 bits-par (suc k) w h =
@@ -94,32 +94,44 @@ bits-par (suc k) w h =
     ∙ sym (ap par (ones-step w) ∙ par-add (w % 2) (ones (w / 2)))
 
 -- ---- the ones that two lists of words share
-abbrev pub meet : List ℕ → List ℕ → ℕ → ℕ
-meet a b w = bitAnd (getD a w 0) (getD b w 0)
+unfoldable pub meet : List ℕ → List ℕ → ℕ → ℕ
+meet a b w = ones (bitAnd (getD a w 0) (getD b w 0))
 
-pub words-sum : (k : ℕ) (a b : List ℕ) → xsum (k * 64) (λ i. bitAt a 0 i && bitAt b 0 i) ≡ xsum k (λ w. xsum 64 (bitOf (meet a b w)))
-words-sum k a b =
+pub words-sum : (k : ℕ) (a b : List ℕ) → ((w : ℕ) → w < k → getD a w 0 < 2 ^ 64) → xsum (k * 64) (λ i. bitAt a 0 i && bitAt b 0 i) ≡ xsum k (λ w. par (meet a b w))
+unfolding meet
+words-sum k a b h =
     sum-blocks k 64 (λ i. bitAt a 0 i && bitAt b 0 i)
     ∙ sum-cong k _ _ (λ w l.
-    sum-cong 64 _ (λ j. bitOf (meet a b w) (63 - j)) (λ j m. ap₂ _&&_ (bit-front a w j m) (bit-front b w j m) ∙ sym (bit-and (getD a w 0) (getD b w 0) (63 - j)))
-    ∙ sym (sum-back 63 (bitOf (meet a b w))))
+    let x = bitAnd (getD a w 0) (getD b w 0) in
+    sum-cong 64 _ (λ j. bitOf x (63 - j)) (λ j m. ap₂ _&&_ (bit-front a w j m) (bit-front b w j m) ∙ sym (bit-and (getD a w 0) (getD b w 0) (63 - j)))
+    ∙ sym (sum-back 63 (bitOf x)) ∙ bits-par 64 x (lt-of-le-of-lt (and-le-l (getD a w 0) (getD b w 0)) (h w l)))
 
-pub record Folded (k : ℕ) (a b : List ℕ) (x i : ℕ) : Type 0 where
+pub record Counted (k : ℕ) (a b : List ℕ) (n i : ℕ) : Type 0 where
   pub low : i ≤ k
-  pub fits : x < 2 ^ 64
-  pub sum : xsum 64 (bitOf x) ≡ xsum i (λ w. xsum 64 (bitOf (meet a b w)))
+  pub small : n ≤ 64 * i
+  pub fits : (w : ℕ) → w < i → getD a w 0 < 2 ^ 64
+  pub sum : par n ≡ xsum i (λ w. par (meet a b w))
 
-pub fold-none : (k : ℕ) (a b : List ℕ) → Folded k a b 0 0
-unfolding xsum
-fold-none k a b = record { low = omega arith; fits = omega arith; sum = sum-cong 64 _ _ (λ j l. zero-bits j) ∙ sum-false 64 }
+pub meet-le : (a b : List ℕ) (i : ℕ) → getD a i 0 < 2 ^ 64 → meet a b i ≤ 64
+unfolding meet
+meet-le a b i h = ones-le 64 _ (lt-of-le-of-lt (and-le-l (getD a i 0) (getD b i 0)) h)
 
-pub fold-more : (k : ℕ) (a b : List ℕ) (x i : ℕ) → Folded k a b x i → i < k → getD a i 0 < 2 ^ 64 → Folded k a b (bitXor x (meet a b i)) (i + 1)
-fold-more k a b x i h l e =
+pub count-none : (k : ℕ) (a b : List ℕ) → Counted k a b 0 0
+unfolding par xsum
+count-none k a b = record { low = omega arith; small = omega arith; fits = λ w l. absurd (not-suc-le-zero l); sum = refl }
+
+pub count-more : (k : ℕ) (a b : List ℕ) (n i : ℕ) → Counted k a b n i → i < k → getD a i 0 < 2 ^ 64 → Counted k a b (n + meet a b i) (i + 1)
+count-more k a b n i h l e =
     record {
       low = omega arith;
-      fits = xor-lt 64 _ _ (h .fits) (lt-of-le-of-lt (and-le-l (getD a i 0) (getD b i 0)) e);
-      sum = sum-cong 64 _ _ (λ j m. bit-xor x (meet a b i) j) ∙ sum-xor 64 (bitOf x) (bitOf (meet a b i)) ∙ rw (h .sum, add-one i) (sym (sum-last i (λ w. xsum 64 (bitOf (meet a b w)))));
+      small = omega (arith, meet-le a b i e);
+      fits = λ w x. fits w x (decLt w i);
+      sum = par-add n (meet a b i) ∙ rw (h .sum, add-one i) (sym (sum-last i (λ w. par (meet a b w))));
     }
+  where
+    fits : (w : ℕ) → w < i + 1 → Dec (w < i) → getD a w 0 < 2 ^ 64
+    fits w x (yes z) = h .fits w z
+    fits w x (no z) = let q : w ≡ i = omega arith in rw q e
 
 -- ---- words that read as a row, and as an assignment
 -- columns past the last variable, all 0, add nothing

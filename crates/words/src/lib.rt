@@ -38,13 +38,13 @@ pub fn sum_from(a: [u64; 4], b: [u64; 4]) -> [u64; 4]
 pub fn odd(row: [u64; 8], truth: [u64; 8]) -> bool
     ensures { λ r. ⌜ r ≡ xsum 512 (λ i. bitAt row 0 i && bitAt truth 0 i) ⌝ }
 {
-    let mut x: u64 = 0;
+    let mut n: u64 = 0;
     let mut i: usize = 0;
     while i < 8 {
-        x = x ^ (row[i] & truth[i]);
+        n += u64::count_ones(row[i] & truth[i]) as u64;
         i += 1;
     }
-    u64::count_ones(x) % 2 == 1
+    n % 2 == 1
 }
 
 // The lowest variable of a row, or 0.
