@@ -1,2 +1,3 @@
 pub mod Picking
-pub mod Skipping
+pub mod Digits
+pub mod ByWord

@@ -5,7 +5,7 @@ use tableau::ROW;
 use tableau::TRUTH;
 use words::bit;
 ghost use mathlib.Core.Path.{_≡_};
-ghost use mathlib.Core.Bool.{true, not};
+ghost use mathlib.Core.Bool.{not};
 ghost use mathlib.Core.List.{_∷_};
 ghost use Prim.Native.Nat.{_+_, _-_, _<_, _≤_};
 ghost use lib.ListN.{length};
@@ -14,7 +14,7 @@ ghost use Rattle.gf2.proofs.Scans.{scanned};
 ghost use Rattle.words.specs.Words.{bitAt};
 ghost use Rattle.tableau.specs.Layout.{maxVars, maxRows, fromAt, knownAt, truthAt, size};
 ghost use Rattle.tableau.specs.View.{vals};
-ghost use Rattle.lists.specs.Listing.{numbers, isNew, isOther, Noted, Listed, Skipped, Passed, fresh};
+ghost use Rattle.lists.specs.Listing.{numbers, isNew, isOther, First, But, items, Listed};
 
 // The code of the literal that gives v the value b.
 pub fn literal(v: usize, b: bool) -> u64
@@ -28,71 +28,49 @@ pub fn literal(v: usize, b: bool) -> u64
     }
 }
 
-// The item is written at place c, if it is picked; the next place.
-pub fn note(out: &mut [u64], c: usize, pick: bool, item: u64) -> usize
-    requires { ⌜ (pick ≡ true → c < length (now out)) ⌝ }
-    ensures { λ x. ⌜ Noted pick item c (now (out .entry)) (now (out .exit)) x ⌝ }
+// The ones of x among its first k digits, the top one first.
+pub fn first_ones(x: u64, k: usize) -> u64
+    requires { ⌜ 0 < k ⌝ }
+    ensures { λ r. ⌜ First x k r ⌝ }
 {
-    if pick {
-        out[c] = item;
-        return c + 1;
+    if k < 64 {
+        let d = 64 - k;
+        (x >> d) << d
+    } else {
+        x
+    }
+}
+
+// The ones of x but that of v: its digits are those of base + 1, base + 2, .., the top one first.
+pub fn but(x: u64, base: usize, v: usize) -> u64
+    requires { ⌜ base + 64 ≤ maxVars ⌝ }
+    ensures { λ r. ⌜ But x base v r ⌝ }
+{
+    if v <= base {
+        return x;
+    }
+    if base + 64 < v {
+        return x;
+    }
+    let one = 1 << (base + 64 - v);
+    x ^ (x & one)
+}
+
+// The ones of x are listed from place `at` on: that of digit i, the top one first, as s * (base + i + 1), and 1 more where t has a one too.
+pub fn list_word(x: u64, t: u64, s: u64, base: usize, at: usize, out: &mut [u64]) -> usize
+    requires { ⌜ (s ≤ 2) × (base + 64 ≤ maxVars) × (at + length (items 64 x t s base) ≤ length (now out)) ⌝ }
+    ensures { λ r. ⌜ Listed (length (now (out .entry))) at (items 64 x t s base) (now (out .entry)) (now (out .exit)) r ⌝ }
+{
+    let mut rest = x;
+    let mut c = at;
+    while rest != 0 {
+        // The top one that is left, by its place from below.
+        let j = 63 - u64::leading_zeros(rest) as usize;
+        out[c] = s * ((base + 64 - j) as u64) + (t >> j) % 2;
+        c += 1;
+        rest = rest ^ (1 << j);
     }
     c
-}
-
-// The next place from u on, below n, where the word x of place u has a bit; where it has none, a place up to which it has none.
-pub fn skip(x: u64, u: usize, n: usize) -> usize
-    requires { ⌜ (u < n) × (n ≤ maxVars) ⌝ }
-    ensures { λ p. ⌜ Skipped x u n p ⌝ }
-{
-    let s = u % 64;
-    let p = u + u64::leading_zeros(x << s) as usize;
-    let last = u - s + 63;
-    let q = if p < last { p } else { last };
-    if q < n { q } else { n - 1 }
-}
-
-// The next place from u on that may have a bit in the eight words from place a.
-pub fn next_bit(ws: &[u64], a: usize, u: usize, n: usize) -> usize
-    requires { ⌜ (a + 8 ≤ length (now ws)) × (u < n) × (n ≤ maxVars) ⌝ }
-    ensures { λ p. ⌜ Passed (bitAt (now (ws .entry)) a) u n p ⌝ }
-{
-    skip(ws[a + u / 64], u, n)
-}
-
-// The next place from u on that may have a value now and none before.
-pub fn next_new(work: &[u64], old: &[u64], u: usize, n: usize) -> usize
-    requires { ⌜ (size ≤ length (now work)) × (8 ≤ length (now old)) × (u < n) × (n ≤ maxVars) ⌝ }
-    ensures { λ p. ⌜ Passed (fresh (now (work .entry)) (now (old .entry))) u n p ⌝ }
-{
-    let j = u / 64;
-    let x = work[KNOWN + j];
-    skip(x ^ (x & old[j]), u, n)
-}
-
-// Whether u has a value, had none before, and is not v.
-pub fn is_new(work: &[u64], old: &[u64], v: usize, u: usize) -> bool
-    requires { ⌜ (size ≤ length (now work)) × (8 ≤ length (now old)) × (0 < u) × (u ≤ maxVars) ⌝ }
-    ensures { λ x. ⌜ x ≡ isNew (now (work .entry)) (now (old .entry)) v u ⌝ }
-{
-    if u == v {
-        return false;
-    }
-    if bit(old, 0, u) {
-        return false;
-    }
-    bit(work, KNOWN, u)
-}
-
-// Whether row r has u, and u is not v.
-pub fn is_other(work: &[u64], r: usize, v: usize, u: usize) -> bool
-    requires { ⌜ (size ≤ length (now work)) × (r < maxRows) × (0 < u) × (u ≤ maxVars) ⌝ }
-    ensures { λ x. ⌜ x ≡ isOther (now (work .entry)) r v u ⌝ }
-{
-    if u == v {
-        return false;
-    }
-    bit(work, ROW * r, u)
 }
 
 // The literals of the variables that are new, given which had a value before.
@@ -101,13 +79,15 @@ pub fn list_new(work: &[u64], old: &[u64], v: usize, n: usize, out: &mut [u64]) 
     ensures { λ x. ⌜ Listed n 0 (scanned n (isNew (now (work .entry)) (now (old .entry)) v) (vals (now (work .entry)) truthAt)) (now (out .entry)) (now (out .exit)) x ⌝ }
 {
     let mut c = 0;
-    let mut u = 0;
-    while u < n {
-        let p = next_new(work, old, u, n);
-        let pick = is_new(work, old, v, p + 1);
-        let item = literal(p + 1, bit(work, TRUTH, p + 1));
-        c = note(out, c, pick, item);
-        u = p + 1;
+    let mut w = 0;
+    while w * 64 < n {
+        let base = w * 64;
+        let known = work[KNOWN + w];
+        let fresh = known ^ (known & old[w]);
+        let x = first_ones(but(fresh, base, v), n - base);
+        // Among the ones of x, x ^ truth has those of the variables that are false: their codes are odd.
+        c = list_word(x, x ^ work[TRUTH + w], 2, base, c, out);
+        w += 1;
     }
     c
 }
@@ -127,13 +107,14 @@ pub fn list_others(work: &[u64], r: usize, v: usize, n: usize, out: &mut [u64]) 
     ensures { λ x. ⌜ Listed n 1 (scanned n (isOther (now (work .entry)) r v) (λ u. not (vals (now (work .entry)) truthAt u))) (now (out .entry)) (now (out .exit)) x ⌝ }
 {
     let mut c = 1;
-    let mut u = 0;
-    while u < n {
-        let p = next_bit(work, ROW * r, u, n);
-        let pick = is_other(work, r, v, p + 1);
-        let item = literal(p + 1, !bit(work, TRUTH, p + 1));
-        c = note(out, c, pick, item);
-        u = p + 1;
+    let mut w = 0;
+    while w * 64 < n {
+        let base = w * 64;
+        let row = work[ROW * r + w];
+        let x = first_ones(but(row, base, v), n - base);
+        // The code of the negation is odd where the variable is true.
+        c = list_word(x, work[TRUTH + w], 2, base, c, out);
+        w += 1;
     }
     c
 }
@@ -153,12 +134,13 @@ pub fn list_rows(work: &[u64], r: usize, m: usize, out: &mut [u64]) -> usize
     ensures { λ x. ⌜ Listed m 0 (numbers m (bitAt (now (work .entry)) (fromAt r))) (now (out .entry)) (now (out .exit)) x ⌝ }
 {
     let mut c = 0;
-    let mut j = 0;
-    while j < m {
-        let p = next_bit(work, ROW * r + FROM, j, m);
-        let pick = bit(work, ROW * r + FROM, p + 1);
-        c = note(out, c, pick, (p + 1) as u64);
-        j = p + 1;
+    let mut w = 0;
+    while w * 64 < m {
+        let base = w * 64;
+        let from = work[ROW * r + FROM + w];
+        let x = first_ones(from, m - base);
+        c = list_word(x, 0, 1, base, c, out);
+        w += 1;
     }
     c
 }

@@ -1,76 +1,93 @@
 -- `lists::list_new` meets its contract.
 -- Assumes nothing.
-use mathlib.Core.Path.{_≡_, sym, ap, _∙_}
-use Prim.Native.Nat.{_+_, _-_, _≤_}
+use Prim.Native.Nat.{_+_, _*_, _-_}
 use native.Mathlib.Omega.{arith}
+use lib.Bits.{bitXor}
+use lib.ListN.{getD}
 use borrow.Author.Needs.{needs}
-use Rattle.gf2.specs.Answers.{code}
-use Rattle.gf2.proofs.Scans.{scanned}
 use Rattle.tableau.specs.Layout.{truthAt}
-use Rattle.tableau.specs.View.{vals}
-use Rattle.lists.specs.Listing.{isNew, Listed}
-use Rattle.lists.proofs.Picking.{scanned-start, scanned-turn, noted-le, vals-at}
-use Rattle.lists.proofs.Skipping.{new-pass}
+use Rattle.lists.specs.Listing.{items}
+use Rattle.lists.proofs.Picking.{scanned-grows}
+use Rattle.lists.proofs.ByWord.{news, Scanned, Step, scan-start, scan-end, new-step}
 use Rattle.lists.proofs.list_new.Statement.{statement}
 use Rattle.lists.proofs.list_new.Tie as tie
 
 abbrev Inv-loop : tie.InvT-loop
-Inv-loop work old v n out₀ c₀ u₀ out c u = (u ≤ n) × (c ≤ u) × Listed n 0 (scanned u (isNew work old v) (vals work truthAt)) out₀ out c
+Inv-loop work old v n out₀ c₀ w₀ out c w = Scanned (news work old v) n 0 w out₀ out c
 
 abbrev μ-loop : tie.MeasureT-loop
-μ-loop work old v n out₀ c₀ u₀ out c u = n - u
+μ-loop work old v n out₀ c₀ w₀ out c w = n - w
+
+-- the turn of the loop
+more : (c : tie.After-list-word-arg Inv-loop μ-loop)
+    → let a = c .before .before .before .before .before .before .before .before .before .before .before .args in
+    let l = c .before .before .before .before .before .before .before .loop in
+    let x = c .before .before .first-ones .result in
+    Step (news (a .work .now) (a .old .now) (a .v)) (a .n) 0 (l .w) (a .out .now) (l .out) (l .c) (items 64 x (bitXor x (getD (a .work .now) (truthAt + l .w) 0)) 2 (l .w * 64))
+more c =
+    let a = c .before .before .before .before .before .before .before .before .before .before .before .args in
+    let l = c .before .before .before .before .before .before .before .loop in
+    new-step (a .n) (l .w) _ _ (omega arith) (c .before .before .first-ones .ensures) (a .work .now) (a .out .now) (l .out) (l .c) (omega arith) (a .old .now) _ (a .v) (l .inv) (c .before .before .before .but .ensures) (omega arith)
 
 loop-holds : tie.Need-loop-holds Inv-loop μ-loop
-loop-holds c = (omega arith, omega arith, scanned-start _ _ _ _ _ (omega arith))
+loop-holds c = scan-start (scanned-grows _ _) _ _ _ (omega arith)
 
-next-new-requires : tie.Need-next-new-requires Inv-loop μ-loop
-next-new-requires c κs = search needs
+mul-loop : tie.Need-mul-loop Inv-loop μ-loop
+mul-loop c = search needs
 
-add-is-new : tie.Need-add-is-new Inv-loop μ-loop
-add-is-new c = search needs
+mul-base : tie.Need-mul-base Inv-loop μ-loop
+mul-base c = search needs
 
-is-new-requires : tie.Need-is-new-requires Inv-loop μ-loop
-is-new-requires c κs = search needs
+add-known : tie.Need-add-known Inv-loop μ-loop
+add-known c = search needs
 
-add-literal : tie.Need-add-literal Inv-loop μ-loop
-add-literal c = search needs
+mul-known : tie.Need-mul-known Inv-loop μ-loop
+mul-known c = search needs
 
-add-bit : tie.Need-add-bit Inv-loop μ-loop
-add-bit c = search needs
+shared-slice-read-known : tie.Need-shared-slice-read-known Inv-loop μ-loop
+shared-slice-read-known c = search needs
 
-bit-requires : tie.Need-bit-requires Inv-loop μ-loop
-bit-requires c κs = search needs
+mul-fresh : tie.Need-mul-fresh Inv-loop μ-loop
+mul-fresh c = search needs
 
-literal-requires : tie.Need-literal-requires Inv-loop μ-loop
-literal-requires c κs = search needs
+shared-slice-read-fresh : tie.Need-shared-slice-read-fresh Inv-loop μ-loop
+shared-slice-read-fresh c = search needs
 
-note-requires : tie.Need-note-requires Inv-loop μ-loop
-note-requires c κs = λ e. omega (arith, c .before .before .before .before .before .before .loop .inv .2 .long, c .before .before .before .before .next-new .ensures .low, c .before .before .before .before .next-new .ensures .high)
+but-requires : tie.Need-but-requires Inv-loop μ-loop
+but-requires c κs = search needs
 
-add-u : tie.Need-add-u Inv-loop μ-loop
-add-u c = search needs
+sub-first-ones : tie.Need-sub-first-ones Inv-loop μ-loop
+sub-first-ones c = search needs
+
+first-ones-requires : tie.Need-first-ones-requires Inv-loop μ-loop
+first-ones-requires c κs = search needs
+
+add-list-word : tie.Need-add-list-word Inv-loop μ-loop
+add-list-word c = search needs
+
+mul-list-word : tie.Need-mul-list-word Inv-loop μ-loop
+mul-list-word c = search needs
+
+shared-slice-read-list-word : tie.Need-shared-slice-read-list-word Inv-loop μ-loop
+shared-slice-read-list-word c = search needs
+
+list-word-requires : tie.Need-list-word-requires Inv-loop μ-loop
+list-word-requires c κs = (omega arith, omega arith, more c .room)
+
+add-w : tie.Need-add-w Inv-loop μ-loop
+add-w c = search needs
 
 loop-less : tie.Need-loop-less Inv-loop μ-loop
-loop-less c = omega (arith, c .before .before .before .before .before .before .before .next-new .ensures .low)
+loop-less c = search needs
 
 loop-again : tie.Need-loop-again Inv-loop μ-loop
-loop-again c = let a = c .before .before .before .before .before .before .before .before .before .before .before .before .before .args in
-    let l = c .before .before .before .before .before .before .before .before .before .loop in
-    let s = c .before .before .before .before .before .before .before .next-new in
-    let lo = s .ensures .low in
-    let hi = s .ensures .high in
-    let w = c .before .before .note .ensures in (
-      omega arith,
-      omega (arith, noted-le _ _ _ _ _ _ w),
-      scanned-turn (a .n) 0 (s .result) (isNew (a .work .now) (a .old .now) (a .v)) (vals (a .work .now) truthAt) (a .out .now) (l .out) _ (l .c) _ _ _ (rw (new-pass (a .work .now) (a .v) (l .u) (a .n) (s .result) (vals (a .work .now) truthAt) (a .old .now) (s .ensures)) (l .inv .2)) (c .before .before .before .before .before .before .is-new .ensures)
-          (c .before .before .before .before .literal .ensures ∙ ap (code (s .result + 1)) (c .before .before .before .before .before .bit .ensures ∙ sym (vals-at (a .work .now) truthAt (s .result + 1) (omega arith)))) (λ e. omega arith) (omega arith) w,
-    )
+loop-again c = more (c .before .before .before) .turn _ _ _ (c .before .before .list-word .ensures)
 
 same-length : tie.Need-same-length Inv-loop μ-loop
-same-length c = c .before .loop .inv .2 .long
+same-length c = c .before .loop .inv .listed .long
 
 returns : tie.Need-returns Inv-loop μ-loop
-returns c = let e : c .before .loop .u ≡ c .before .before .before .before .before .args .n = omega arith in rw e at (c .before .loop .inv .2)
+returns c = scan-end _ _ _ _ _ _ _ (c .before .loop .inv) (omega arith)
 
 pub list-new-spec : {M : Type 1} → statement M
 list-new-spec =
@@ -79,15 +96,21 @@ list-new-spec =
     Inv-loop
     μ-loop
     loop-holds
-    next-new-requires
-    add-is-new
-    is-new-requires
-    add-literal
-    add-bit
-    bit-requires
-    literal-requires
-    note-requires
-    add-u
+    mul-loop
+    mul-base
+    add-known
+    mul-known
+    shared-slice-read-known
+    mul-fresh
+    shared-slice-read-fresh
+    but-requires
+    sub-first-ones
+    first-ones-requires
+    add-list-word
+    mul-list-word
+    shared-slice-read-list-word
+    list-word-requires
+    add-w
     loop-less
     loop-again
     same-length

@@ -1,77 +1,78 @@
 -- `lists::list_rows` meets its contract.
 -- Assumes nothing.
-use mathlib.Core.Path.{_≡_, ap, _∙_}
-use Prim.Native.Nat.{_+_, _-_, _≤_}
+use Prim.Native.Nat.{_*_, _-_}
 use native.Mathlib.Omega.{arith}
 use borrow.Author.Needs.{needs}
-use Rattle.words.specs.Words.{bitAt}
-use Rattle.tableau.specs.Layout.{fromAt}
-use Rattle.lists.specs.Listing.{numbers, Listed}
-use Rattle.lists.proofs.Picking.{numbers-start, numbers-turn, noted-le}
-use Rattle.lists.proofs.Skipping.{numbers-pass}
+use Rattle.lists.specs.Listing.{items}
+use Rattle.lists.proofs.Picking.{numbers-grows}
+use Rattle.lists.proofs.ByWord.{rows, Scanned, Step, scan-start, scan-end, row-step}
 use Rattle.lists.proofs.list_rows.Statement.{statement}
 use Rattle.lists.proofs.list_rows.Tie as tie
 
 abbrev Inv-loop : tie.InvT-loop
-Inv-loop work r m out₀ c₀ j₀ out c j = (j ≤ m) × (c ≤ j) × Listed m 0 (numbers j (bitAt work (fromAt r))) out₀ out c
+Inv-loop work r m out₀ c₀ w₀ out c w = Scanned (rows work r) m 0 w out₀ out c
 
 abbrev μ-loop : tie.MeasureT-loop
-μ-loop work r m out₀ c₀ j₀ out c j = m - j
+μ-loop work r m out₀ c₀ w₀ out c w = m - w
+
+-- the turn of the loop
+more : (c : tie.After-list-word-arg Inv-loop μ-loop)
+    → let a = c .before .before .before .before .before .before .before .args in
+    let l = c .before .before .before .before .loop in
+    let x = c .before .first-ones .result in
+    Step (rows (a .work .now) (a .r)) (a .m) 0 (l .w) (a .out .now) (l .out) (l .c) (items 64 x 0 1 (l .w * 64))
+more c =
+    let a = c .before .before .before .before .before .before .before .args in
+    let l = c .before .before .before .before .loop in
+    row-step (a .m) (l .w) _ _ (omega arith) (c .before .first-ones .ensures) (a .work .now) (a .out .now) (l .out) (l .c) (omega arith) (a .r) (l .inv) (omega arith)
 
 loop-holds : tie.Need-loop-holds Inv-loop μ-loop
-loop-holds c = (omega arith, omega arith, numbers-start _ _ _ _ (omega arith))
+loop-holds c = scan-start (numbers-grows _) _ _ _ (omega arith)
 
-mul-next-bit : tie.Need-mul-next-bit Inv-loop μ-loop
-mul-next-bit c = search needs
+mul-loop : tie.Need-mul-loop Inv-loop μ-loop
+mul-loop c = search needs
 
-add-next-bit : tie.Need-add-next-bit Inv-loop μ-loop
-add-next-bit c = search needs
+mul-base : tie.Need-mul-base Inv-loop μ-loop
+mul-base c = search needs
 
-next-bit-requires : tie.Need-next-bit-requires Inv-loop μ-loop
-next-bit-requires c κs = search needs
+mul-from : tie.Need-mul-from Inv-loop μ-loop
+mul-from c = search needs
 
-mul-bit : tie.Need-mul-bit Inv-loop μ-loop
-mul-bit c = search needs
+add-from : tie.Need-add-from Inv-loop μ-loop
+add-from c = search needs
 
-add-bit : tie.Need-add-bit Inv-loop μ-loop
-add-bit c = search needs
+add-from-2 : tie.Need-add-from-2 Inv-loop μ-loop
+add-from-2 c = search needs
 
-add-bit-2 : tie.Need-add-bit-2 Inv-loop μ-loop
-add-bit-2 c = search needs
+mul-from-2 : tie.Need-mul-from-2 Inv-loop μ-loop
+mul-from-2 c = search needs
 
-bit-requires : tie.Need-bit-requires Inv-loop μ-loop
-bit-requires c κs = search needs
+shared-slice-read-from : tie.Need-shared-slice-read-from Inv-loop μ-loop
+shared-slice-read-from c = search needs
 
-add-note : tie.Need-add-note Inv-loop μ-loop
-add-note c = search needs
+sub-first-ones : tie.Need-sub-first-ones Inv-loop μ-loop
+sub-first-ones c = search needs
 
-note-requires : tie.Need-note-requires Inv-loop μ-loop
-note-requires c κs = λ e. omega (arith, c .before .before .before .before .loop .inv .2 .long, c .before .before .next-bit .ensures .low, c .before .before .next-bit .ensures .high)
+first-ones-requires : tie.Need-first-ones-requires Inv-loop μ-loop
+first-ones-requires c κs = search needs
 
-add-j : tie.Need-add-j Inv-loop μ-loop
-add-j c = search needs
+list-word-requires : tie.Need-list-word-requires Inv-loop μ-loop
+list-word-requires c κs = (omega arith, omega arith, more c .room)
+
+add-w : tie.Need-add-w Inv-loop μ-loop
+add-w c = search needs
 
 loop-less : tie.Need-loop-less Inv-loop μ-loop
-loop-less c = omega (arith, c .before .before .before .before .before .next-bit .ensures .low)
+loop-less c = search needs
 
 loop-again : tie.Need-loop-again Inv-loop μ-loop
-loop-again c = let a = c .before .before .before .before .before .before .before .before .before .before .args in
-    let l = c .before .before .before .before .before .before .before .loop in
-    let s = c .before .before .before .before .before .next-bit in
-    let lo = s .ensures .low in
-    let hi = s .ensures .high in
-    let w = c .before .before .note .ensures in
-    let e : s .result + 1 - 1 ≡ s .result = omega arith in (
-      omega arith,
-      omega (arith, noted-le _ _ _ _ _ _ w),
-      numbers-turn (a .m) 0 (s .result) (bitAt (a .work .now) (fromAt (a .r))) (a .out .now) (l .out) _ (l .c) _ _ (rw (numbers-pass (l .j) (a .m) (s .result) (bitAt (a .work .now) (fromAt (a .r))) (s .ensures)) (l .inv .2)) (c .before .before .before .before .bit .ensures ∙ ap (bitAt (a .work .now) (fromAt (a .r))) e) (λ e. omega arith) (omega arith) w,
-    )
+loop-again c = more (c .before .before .before) .turn _ _ _ (c .before .before .list-word .ensures)
 
 same-length : tie.Need-same-length Inv-loop μ-loop
-same-length c = c .before .loop .inv .2 .long
+same-length c = c .before .loop .inv .listed .long
 
 returns : tie.Need-returns Inv-loop μ-loop
-returns c = let e : c .before .loop .j ≡ c .before .before .before .before .args .m = omega arith in rw e at (c .before .loop .inv .2)
+returns c = scan-end _ _ _ _ _ _ _ (c .before .loop .inv) (omega arith)
 
 pub list-rows-spec : {M : Type 1} → statement M
 list-rows-spec =
@@ -80,16 +81,17 @@ list-rows-spec =
     Inv-loop
     μ-loop
     loop-holds
-    mul-next-bit
-    add-next-bit
-    next-bit-requires
-    mul-bit
-    add-bit
-    add-bit-2
-    bit-requires
-    add-note
-    note-requires
-    add-j
+    mul-loop
+    mul-base
+    mul-from
+    add-from
+    add-from-2
+    mul-from-2
+    shared-slice-read-from
+    sub-first-ones
+    first-ones-requires
+    list-word-requires
+    add-w
     loop-less
     loop-again
     same-length
