@@ -11,7 +11,7 @@ use native.Mathlib.Nat.{not-suc-le-zero, le-of-suc-le-suc, suc-inj, suc-ne-zero}
 use native.Mathlib.Decide.{decLt}
 use native.Mathlib.Omega.{arith}
 use lib.ListN.{length, getD, set, length-set}
-use lib.Seq.{getD-set-same, getD-set-other}
+use lib.Seq.{getD-set-same, getD-set-other, ext-getD}
 use lib.Bits.{bitXor}
 use Rattle.gf2.specs.Field.{_⊕_, same}
 use Rattle.gf2.proofs.Sums.{same-dec, sum-cong}
@@ -64,10 +64,7 @@ mix-back (suc n) (x ∷ a) (y ∷ c) (suc i) l = mix-back n a c i (le-of-suc-le-
 
 -- lists of the same length with the same words
 all-same : (a c : List ℕ) → length a ≡ length c → ((i : ℕ) → getD a i 0 ≡ getD c i 0) → a ≡ c
-all-same [] [] e h = refl
-all-same [] (y ∷ c) e h = absurd (suc-ne-zero (length c) (sym e))
-all-same (x ∷ a) [] e h = absurd (suc-ne-zero (length a) e)
-all-same (x ∷ a) (y ∷ c) e h = ap₂ _∷_ (h 0) (all-same a c (suc-inj e) (λ i. h (suc i)))
+all-same a c e h = ext-getD 0 a c e (λ i l. h i)
 
 -- a row that is settled keeps the rows
 settled-front : (r : ℕ) (ws w : List ℕ) → RowSettled r ws w → (i : ℕ) → i < knownAt → getD w i 0 ≡ getD ws i 0
