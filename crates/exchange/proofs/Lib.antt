@@ -1,5 +1,6 @@
 pub mod Finds
 pub mod Partners
 pub mod Exchanges
+pub mod Passes
 pub mod Turns
 pub mod Steps

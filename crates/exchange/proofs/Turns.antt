@@ -21,7 +21,9 @@ use Rattle.tableau.specs.Buffer.{basicAt, Added, Recorded, Chain}
 use Rattle.tableau.specs.Layout.{maxVars, maxRows, coefWords, fromWords, rowSize, rowAt, lastAt, knownAt, truthAt, recordAt, size}
 use Rattle.tableau.proofs.Reading.{entry-stay}
 use Rattle.settle.specs.Values.{lacks, Put, Can, valueAt, RowSettled, RowFollowed, Followed}
+use Rattle.settle.proofs.Blocks.{settled-rows}
 use Rattle.exchange.specs.Steps.{RowCleared, Exchanged, pointed, RowTurned, idle, added, centre, Turned}
+use Rattle.exchange.proofs.Passes.{turned-else}
 
 pub record Apart (k p u q : ℕ) (b : Bool) (d code : ℕ) (ws w : List ℕ) : Type 0 where
   pub exchanged : List ℕ
@@ -65,11 +67,6 @@ mix-back (suc n) (x ∷ a) (y ∷ c) (suc i) l = mix-back n a c i (le-of-suc-le-
 -- lists of the same length with the same words
 all-same : (a c : List ℕ) → length a ≡ length c → ((i : ℕ) → getD a i 0 ≡ getD c i 0) → a ≡ c
 all-same a c e h = ext-getD 0 a c e (λ i l. h i)
-
--- a row that is settled keeps the rows
-settled-front : (r : ℕ) (ws w : List ℕ) → RowSettled r ws w → (i : ℕ) → i < knownAt → getD w i 0 ≡ getD ws i 0
-settled-front r ws w (inl h) i l = ap (λ (z : List ℕ). getD z i 0) (h .0)
-settled-front r ws w (inr h) i l = h .1 .rest i (inl l)
 
 -- ---- the rows of w before the values of another buffer: a row that is the same there is settled in the same way
 module _ (w : List ℕ) where
@@ -143,37 +140,27 @@ module _ (k p u q : ℕ) (b : Bool) (d code : ℕ) (ws y w : List ℕ) (lk : k �
     row : (j : ℕ) → j < coefWords + fromWords → getD g (rowAt p + j) 0 ≡ getD ws (rowAt p + j) 0
     last : p < r → getD g (lastAt p) 0 ≡ 2 * u + getD ws (lastAt p) 0 % 2
 
-  -- a turn keeps the words of the other rows
-  apart : (r : ℕ) (g g′ : List ℕ) → RowTurned p u r g g′ → (i : ℕ) → i < knownAt → (i < rowAt r) ⊎ (rowAt r + rowSize ≤ i) → getD g′ i 0 ≡ getD g i 0
-  apart r g g′ (idle n h e) i l o = ap (λ (x : List ℕ). getD x i 0) e
-  apart r g g′ (added v n h a s) i l o = settled-front r v g′ s i l ∙ a .rest i o
-  apart r g g′ (centre e s) i l o = settled-front r (pointed r u g) g′ s i l ∙ getD-set-other g (lastAt r) i _ 0 (away o)
-    where
-      away : (i < rowAt r) ⊎ (rowAt r + rowSize ≤ i) → i ≢ lastAt r
-      away (inl h) x = absurd (omega arith)
-      away (inr h) x = absurd (omega arith)
-
   module _ (r : ℕ) (lr : r < k) (g g′ : List ℕ) (lg : length g ≡ length ws) (st : Turning r g) where
     turning-more : RowTurned p u r g g′ → Turning (suc r) g′
-    turning-more h = record { todo = λ i l s. apart r g g′ h i s (inr (omega arith)) ∙ st .todo i (omega arith) s; row = λ j l. row j l h; last = λ l. last l (same-dec r p) h }
+    turning-more h = record { todo = λ i l s. turned-else p u r g g′ h i s (inr (omega arith)) ∙ st .todo i (omega arith) s; row = λ j l. row j l h; last = λ l. last l (same-dec r p) h }
       where
         row : (j : ℕ) → j < coefWords + fromWords → RowTurned p u r g g′ → getD g′ (rowAt p + j) 0 ≡ getD ws (rowAt p + j) 0
         row j l (idle n x e) = ap (λ (s : List ℕ). getD s (rowAt p + j) 0) e ∙ st .row j l
-        row j l (added v n x a s) = apart r g g′ (added v n x a s) (rowAt p + j) (omega arith) (side (decLt p r)) ∙ st .row j l
+        row j l (added v n x a s) = turned-else p u r g g′ (added v n x a s) (rowAt p + j) (omega arith) (side (decLt p r)) ∙ st .row j l
           where
             side : Dec (p < r) → (rowAt p + j < rowAt r) ⊎ (rowAt r + rowSize ≤ rowAt p + j)
             side (yes o) = inl (omega arith)
             side (no o) = inr (let f : r < p = omega (arith, n) in omega arith)
-        row j l (centre e s) = settled-front r (pointed r u g) g′ s (rowAt p + j) (omega arith) ∙ getD-set-other g (lastAt r) (rowAt p + j) _ 0 (λ (x : rowAt p + j ≡ lastAt r). absurd (omega arith)) ∙ st .row j l
+        row j l (centre e s) = settled-rows r (pointed r u g) g′ s (rowAt p + j) (omega arith) ∙ getD-set-other g (lastAt r) (rowAt p + j) _ 0 (λ (x : rowAt p + j ≡ lastAt r). absurd (omega arith)) ∙ st .row j l
 
         last : p < suc r → (r ≡ p) ⊎ (r ≢ p) → RowTurned p u r g g′ → getD g′ (lastAt p) 0 ≡ 2 * u + getD ws (lastAt p) 0 % 2
-        last l (inr n) x = apart r g g′ x (lastAt p) (omega arith) (inl (let f : p < r = omega (arith, n) in omega arith)) ∙ st .last (omega (arith, n))
+        last l (inr n) x = turned-else p u r g g′ x (lastAt p) (omega arith) (inl (let f : p < r = omega (arith, n) in omega arith)) ∙ st .last (omega (arith, n))
         last l (inl e) (idle n x c) = absurd (n e)
         last l (inl e) (added v n x a s) = absurd (n e)
         last l (inl e) (centre c s) =
             let f : lastAt p ≡ lastAt r = omega arith in
             ap (λ (i : ℕ). getD g′ i 0) f
-            ∙ settled-front r (pointed r u g) g′ s (lastAt r) (omega arith)
+            ∙ settled-rows r (pointed r u g) g′ s (lastAt r) (omega arith)
             ∙ getD-set-same g (lastAt r) _ 0 (omega arith)
             ∙ ap (λ (x : ℕ). 2 * u + x % 2) (st .todo (lastAt r) (omega arith) (omega arith) ∙ ap (λ (i : ℕ). getD ws i 0) (sym f))
 
@@ -231,10 +218,10 @@ module _ (k p u q : ℕ) (b : Bool) (d code : ℕ) (ws y w : List ℕ) (lk : k �
           len = cleared-length g′ ∙ sym (cleared-length g);
           bits = λ j l.
               let i : rowAt r + j < knownAt = omega arith in
-              cleared-front g′ lg′ (rowAt r + j) i (off j l) ∙ settled-front r v g′ s (rowAt r + j) i ∙ a .bits j l
+              cleared-front g′ lg′ (rowAt r + j) i (off j l) ∙ settled-rows r v g′ s (rowAt r + j) i ∙ a .bits j l
               ∙ ap₂ bitXor (sym (cleared-front g lg (rowAt r + j) i (off j l))) (sym (cleared-front g lg (rowAt p + j) (omega arith) (λ (x : rowAt p + j ≡ lastAt p). absurd (omega arith))));
           last = last;
-          rest = λ i o. cleared-same g g′ lg lg′ i (λ l m. settled-front r v g′ s i l ∙ a .rest i o);
+          rest = λ i o. cleared-same g g′ lg lg′ i (λ l m. settled-rows r v g′ s i l ∙ a .rest i o);
         }
       where
         off : (j : ℕ) → j < coefWords + fromWords → rowAt r + j ≢ lastAt p
@@ -244,13 +231,13 @@ module _ (k p u q : ℕ) (b : Bool) (d code : ℕ) (ws y w : List ℕ) (lk : k �
         last =
             let i : lastAt r < knownAt = omega arith in
             let m : lastAt r ≢ lastAt p = λ (x : lastAt r ≡ lastAt p). n (omega arith) in
-            cleared-front g′ lg′ (lastAt r) i m ∙ settled-front r v g′ s (lastAt r) i ∙ a .last
+            cleared-front g′ lg′ (lastAt r) i m ∙ settled-rows r v g′ s (lastAt r) i ∙ a .last
             ∙ ap₂ (λ (x y : ℕ). x / 2 * 2 + (x % 2 + y) % 2) (sym (cleared-front g lg (lastAt r) i m)) (parity r g st ∙ ap (λ (x : ℕ). x % 2) (sym (cleared-last g)))
 
     cleared-more : RowTurned p u r g g′ → RowCleared p (u - 1) r (cleared g) (cleared g′)
     cleared-more (idle n h e) = inl (ap cleared e, inr (test ∙ h))
     cleared-more (added v n h a s) = inr (n, test ∙ h, cleared-added v n a s)
-    cleared-more (centre e s) = inl (all-same (cleared g′) (cleared g) (cleared-length g′ ∙ sym (cleared-length g)) (λ i. cleared-same g g′ lg lg′ i (λ l n. settled-front r (pointed r u g) g′ s i l ∙ getD-set-other g (lastAt r) i _ 0 (λ (x : i ≡ lastAt r). n (omega arith)))), inl e)
+    cleared-more (centre e s) = inl (all-same (cleared g′) (cleared g) (cleared-length g′ ∙ sym (cleared-length g)) (λ i. cleared-same g g′ lg lg′ i (λ l n. settled-rows r (pointed r u g) g′ s i l ∙ getD-set-other g (lastAt r) i _ 0 (λ (x : i ≡ lastAt r). n (omega arith)))), inl e)
 
   cleared-all : (r : ℕ) → r ≤ k → (g : List ℕ) → length g ≡ length ws → Chain (RowTurned p u) r z g → Chain (RowCleared p (u - 1)) r ws (cleared g)
   cleared-all zero l g e c = ap cleared c ∙ cleared-none
@@ -280,7 +267,7 @@ module _ (k p u q : ℕ) (b : Bool) (d code : ℕ) (ws y w : List ℕ) (lk : k �
   module _ (r : ℕ) (lr : r < k) (g g′ : List ℕ) (lg : length g ≡ length ws) (st : Turning r g) (agree : (i : ℕ) → i < rowAt (suc r) → getD w i 0 ≡ getD g′ i 0) where
     -- row r of w, where it was settled last
     row-was : (v : List ℕ) → RowSettled r v g′ → (i : ℕ) → rowAt r ≤ i → i < rowAt r + rowSize → getD w i 0 ≡ getD v i 0
-    row-was v s i l h = agree i (omega arith) ∙ settled-front r v g′ s i (omega arith)
+    row-was v s i l h = agree i (omega arith) ∙ settled-rows r v g′ s i (omega arith)
 
     -- a list with the values of g
     settled-row : (v : List ℕ) → length v ≡ length g → ((i : ℕ) → knownAt ≤ i → getD v i 0 ≡ getD g i 0) → RowSettled r v g′ → RowSettled r (over w g) (over w g′)
@@ -314,7 +301,7 @@ module _ (k p u q : ℕ) (b : Bool) (d code : ℕ) (ws y w : List ℕ) (lk : k �
   followed-all (suc r) l g c h = (
     over w (c .0),
     mix-length knownAt w (c .0) ∙ c .1 ∙ sym (mix-length knownAt w z),
-    followed-all r (omega arith) (c .0) (c .2) (λ i s. h i (omega arith) ∙ apart r (c .0) g (c .3) i (omega arith) (inl s)),
+    followed-all r (omega arith) (c .0) (c .2) (λ i s. h i (omega arith) ∙ turned-else p u r (c .0) g (c .3) i (omega arith) (inl s)),
     followed r l (c .0) g (c .1 ∙ z-length) (turning r (omega arith) (c .0) (c .2)) h (c .3),
   )
 

@@ -1,6 +1,5 @@
 -- WHAT A LITERAL DOES TO THE BUFFER (document 01, "Assuming"): on every buffer, and what it means for a state of the module.
 --   RowCleared p i r ws w    row p has been added to row r, if that is another and has variable i + 1
---   Span Step a b ws w       the steps a .. b - 1 one after another, as a chain goes on
 --   Partner ws r p x         x is the lowest variable of row r that has no value and is not p + 1, or 0 where there is none
 --   First ws k p x           x is the first row below k that has variable p + 1, or k
 --   Absent ws k v            no row below k has variable v, or one has it in which another is basic
@@ -31,9 +30,6 @@ use Rattle.settle.specs.Values.{lacks, Put, RowSettled, Without, Followed}
 
 abbrev pub RowCleared : (p i : ℕ) → ℕ → List ℕ → List ℕ → Type 0
 RowCleared p i r ws w = ((w ≡ ws) × ((r ≡ p) ⊎ (bitAt ws (rowAt r) i ≡ false))) ⊎ ((r ≢ p) × (bitAt ws (rowAt r) i ≡ true) × Added p r ws w)
-
-abbrev pub Span : (ℕ → List ℕ → List ℕ → Type 0) → ℕ → ℕ → List ℕ → List ℕ → Type 0
-Span Step a b ws w = (z : List ℕ) → length ws ≡ length z → Chain Step a z ws → Chain Step b z w
 
 pub record Partner (ws : List ℕ) (r p x : ℕ) : Type 0 where
   pub none : x ≡ 0 → (i : ℕ) → i < maxVars → i ≢ p → lacks ws r i ≡ false

@@ -1,4 +1,6 @@
 // Assuming: a basic variable is exchanged, and the literal is taken.
+use settle::block_end;
+use settle::column;
 use settle::follow;
 use settle::put;
 use settle::settle_row;
@@ -10,12 +12,14 @@ use tableau::add_row;
 use tableau::set_entry;
 use words::bit;
 use words::own;
-ghost use mathlib.Core.Logic.{_≢_, _⊎_};
+ghost use mathlib.Core.Bool.{true};
 ghost use mathlib.Core.Path.{_≡_};
 ghost use Prim.Native.Nat.{_+_, _*_, _-_, _<_, _≤_};
 ghost use lib.ListN.{length};
-ghost use Rattle.tableau.specs.Layout.{maxVars, maxRows, maxTaken, size};
-ghost use Rattle.exchange.specs.Steps.{Span, Partner, First, Found, pointed, RowTurned, Turned, Took, Stepped};
+ghost use Rattle.words.specs.Words.{bitAt};
+ghost use Rattle.tableau.specs.Layout.{maxVars, maxRows, maxTaken, rowAt, size};
+ghost use Rattle.tableau.specs.Buffer.{Span};
+ghost use Rattle.exchange.specs.Steps.{Partner, First, Found, pointed, RowTurned, Turned, Took, Stepped};
 
 // The lowest variable of row r that has no value and is not v, or 0. On a state of the module, where v is basic in row r, it is not basic.
 pub fn partner(work: &[u64], r: usize, v: usize) -> usize
@@ -89,39 +93,45 @@ pub fn point(work: &mut [u64], p: usize, u: usize)
     work[at] = 2 * (u as u64) + x;
 }
 
-// Row p is added into row r, which is another, if that has the variable u; row r then gives its basic variable a value, if it does.
+// Row r has the variable u. Row p is added into it, or u becomes its basic variable if it is row p; it then gives its basic variable a value, if it does.
 pub fn turn_row(work: &mut [u64], p: usize, u: usize, r: usize)
-    requires { ⌜ (size ≤ length (now work)) × (p < maxRows) × (r < maxRows) × (0 < u) × (u ≤ maxVars) × (r ≢ p) ⌝ }
+    requires { ⌜ (size ≤ length (now work)) × (p < maxRows) × (r < maxRows) × (u ≤ maxVars) × (bitAt (now work) (rowAt r) (u - 1) ≡ true) ⌝ }
     ensures { λ _. ⌜ RowTurned p u r (now (work .entry)) (now (work .exit)) ⌝ }
 {
-    if bit(work, ROW * r, u) {
+    if r == p {
+        point(work, r, u);
+        settle_row(work, r);
+    } else {
         add_row(work, p, r);
         settle_row(work, r);
     }
 }
 
-// The same for each row from a to below b, among which row p is not.
-pub fn turn_span(work: &mut [u64], a: usize, b: usize, p: usize, u: usize)
-    requires { ⌜ (size ≤ length (now work)) × (a ≤ b) × (b ≤ maxRows) × (p < maxRows) × (0 < u) × (u ≤ maxVars) × ((b ≤ p) ⊎ (p < a)) ⌝ }
-    ensures { λ _. ⌜ Span (RowTurned p u) a b (now (work .entry)) (now (work .exit)) ⌝ }
+// Each row from q to below e, 64 at most, that has the variable u is turned; row p, which has it, too if it is one of them.
+pub fn turn_block(work: &mut [u64], q: usize, e: usize, p: usize, u: usize)
+    requires { ⌜ (size ≤ length (now work)) × (q < e) × (e ≤ q + 64) × (e ≤ maxRows) × (p < maxRows) × (0 < u) × (u ≤ maxVars) × (bitAt (now work) (rowAt p) (u - 1) ≡ true) ⌝ }
+    ensures { λ _. ⌜ Span (RowTurned p u) q e (now (work .entry)) (now (work .exit)) ⌝ }
 {
-    let mut q = a;
-    while q < b {
-        turn_row(work, p, u, q);
-        q += 1;
+    let mut rest = column(work, q, e, u);
+    while rest != 0 {
+        let i = u64::leading_zeros(rest) as usize;
+        turn_row(work, p, u, q + i);
+        rest = rest ^ (1 << (63 - i));
     }
 }
 
-// Variable v, basic in row p, gets the value b, and u becomes basic in row p: an exchange and the settling in one pass, since v is then in the rows that change and in no other.
+// Variable v, basic in row p, gets the value b, and u, which row p has, becomes basic there: an exchange and the settling in one pass, since v is then in the rows that change and in no other.
 pub fn turn(work: &mut [u64], k: usize, p: usize, u: usize, v: usize, b: bool)
-    requires { ⌜ (size ≤ length (now work)) × (k ≤ maxRows) × (p < k) × (0 < u) × (u ≤ maxVars) × (0 < v) × (v ≤ maxVars) ⌝ }
+    requires { ⌜ (size ≤ length (now work)) × (k ≤ maxRows) × (p < k) × (0 < u) × (u ≤ maxVars) × (0 < v) × (v ≤ maxVars) × (bitAt (now work) (rowAt p) (u - 1) ≡ true) ⌝ }
     ensures { λ _. ⌜ Turned k p u (v - 1) b (now (work .entry)) (now (work .exit)) ⌝ }
 {
     put(work, v, b);
-    turn_span(work, 0, p, p, u);
-    point(work, p, u);
-    settle_row(work, p);
-    turn_span(work, p + 1, k, p, u);
+    let mut a = 0;
+    while a < k {
+        let e = block_end(a, k);
+        turn_block(work, a, e, p, u);
+        a = e;
+    }
 }
 
 // A literal whose variable has no value is taken at depth d, if it can be.

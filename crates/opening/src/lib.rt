@@ -17,8 +17,8 @@ ghost use Prim.Native.Nat.{_+_, _-_, _*_, _%_, _<_, _≤_};
 ghost use lib.ListN.{length};
 ghost use Rattle.words.specs.Words.{bitAt, ownWord};
 ghost use Rattle.tableau.specs.Layout.{fromWords, maxVars, maxRows, rowAt, fromAt, size};
-ghost use Rattle.tableau.specs.Buffer.{basicAt, Run, Chain};
-ghost use Rattle.exchange.specs.Steps.{RowCleared, Span, Exchanged};
+ghost use Rattle.tableau.specs.Buffer.{basicAt, Run, Chain, Span};
+ghost use Rattle.exchange.specs.Steps.{RowCleared, Exchanged};
 ghost use Rattle.opening.specs.Opened.{Basics, Loaded, Reduced, RowDone, Answered};
 
 // The provenance of row k becomes row q of the sheet alone.

@@ -7,15 +7,14 @@ use tableau::TRUTH;
 use tableau::copy_truth;
 use tableau::entry;
 use tableau::load;
-use words::bit;
 use words::odd;
 use words::own;
 ghost use mathlib.Core.Path.{_≡_};
-ghost use Prim.Native.Nat.{_-_, _<_, _≤_};
+ghost use Prim.Native.Nat.{_+_, _-_, _<_, _≤_};
 ghost use lib.ListN.{length};
 ghost use Rattle.tableau.specs.Layout.{coefWords, maxVars, maxRows, maxTaken, knownAt, size};
-ghost use Rattle.tableau.specs.Buffer.{Run, Chain};
-ghost use Rattle.settle.specs.Values.{Overlay, Full, Put, valueAt, Ready, RowSettled, EntrySet, Restarted, RowFollowed, Without, Followed};
+ghost use Rattle.tableau.specs.Buffer.{Run, Chain, Span};
+ghost use Rattle.settle.specs.Values.{Overlay, Full, Put, valueAt, Ready, RowSettled, EntrySet, Restarted, RowFollowed, Without, Followed, Column};
 
 // Variable v gets the value b.
 pub fn put(work: &mut [u64], v: usize, b: bool)
@@ -178,13 +177,41 @@ pub fn restart(work: &mut [u64], k: usize, d: usize)
     settle(work, k);
 }
 
-// Row r gives its basic variable a value, if it has the variable v and does.
-pub fn follow_row(work: &mut [u64], v: usize, r: usize)
-    requires { ⌜ (size ≤ length (now work)) × (0 < v) × (v ≤ maxVars) × (r < maxRows) ⌝ }
-    ensures { λ _. ⌜ RowFollowed (v - 1) r (now (work .entry)) (now (work .exit)) ⌝ }
+// Where the rows from q on end that are taken together: 64 at most, and below k.
+pub fn block_end(q: usize, k: usize) -> usize
+    requires { ⌜ (q < k) × (k ≤ maxRows) ⌝ }
+    ensures { λ e. ⌜ (q < e) × (e ≤ k) × (e ≤ q + 64) ⌝ }
 {
-    if bit(work, ROW * r, v) {
-        settle_row(work, r);
+    if k - q < 64 { k } else { q + 64 }
+}
+
+// Which rows from q to below e, 64 at most, have the variable v: a digit each, the top one for row q. Nothing is asked row by row, since which of them have it cannot be foreseen.
+pub fn column(work: &[u64], q: usize, e: usize, v: usize) -> u64
+    requires { ⌜ (size ≤ length (now work)) × (q < e) × (e ≤ q + 64) × (e ≤ maxRows) × (0 < v) × (v ≤ maxVars) ⌝ }
+    ensures { λ x. ⌜ Column (now (work .entry)) q e (v - 1) x ⌝ }
+{
+    let p = v - 1;
+    let j = p / 64;
+    let d = 63 - p % 64;
+    let mut x = 0;
+    let mut r = q;
+    while r < e {
+        x = 2 * x + (work[ROW * r + j] >> d) % 2;
+        r += 1;
+    }
+    x << (64 - (e - q))
+}
+
+// Each row from q to below e, 64 at most, that has the variable v gives its basic variable a value, if it does.
+pub fn follow_block(work: &mut [u64], q: usize, e: usize, v: usize)
+    requires { ⌜ (size ≤ length (now work)) × (q < e) × (e ≤ q + 64) × (e ≤ maxRows) × (0 < v) × (v ≤ maxVars) ⌝ }
+    ensures { λ _. ⌜ Span (RowFollowed (v - 1)) q e (now (work .entry)) (now (work .exit)) ⌝ }
+{
+    let mut rest = column(work, q, e, v);
+    while rest != 0 {
+        let i = u64::leading_zeros(rest) as usize;
+        settle_row(work, q + i);
+        rest = rest ^ (1 << (63 - i));
     }
 }
 
@@ -194,9 +221,10 @@ pub fn follow(work: &mut [u64], a: usize, k: usize, v: usize, b: bool)
     ensures { λ _. ⌜ Followed k (v - 1) b (now (work .entry)) (now (work .exit)) ⌝ }
 {
     put(work, v, b);
-    let mut r = a;
-    while r < k {
-        follow_row(work, v, r);
-        r += 1;
+    let mut q = a;
+    while q < k {
+        let e = block_end(q, k);
+        follow_block(work, q, e, v);
+        q = e;
     }
 }

@@ -4,7 +4,7 @@
 --   basicAt, parityAt       the basic variable and the parity of a row
 --   entryAt                 an entry of the record; Recorded: one has been set
 --   Added f t ws w          row f has been added into row t, which keeps its basic variable
---   Chain Step k ws w       the steps 0 .. k - 1 one after another
+--   Chain Step k ws w       the steps 0 .. k - 1 one after another; Span Step a b: the steps a .. b - 1, as a chain goes on
 -- Assumes nothing.
 use mathlib.Core.Path.{_≡_}
 use mathlib.Core.List.{List}
@@ -48,3 +48,6 @@ pub record Added (f t : ℕ) (ws w : List ℕ) : Type 0 where
 abbrev pub Chain : (ℕ → List ℕ → List ℕ → Type 0) → ℕ → List ℕ → List ℕ → Type 0
 Chain Step zero ws w = w ≡ ws
 Chain Step (suc k) ws w = (v : List ℕ) × (length v ≡ length ws) × Chain Step k ws v × Step k v w
+
+abbrev pub Span : (ℕ → List ℕ → List ℕ → Type 0) → ℕ → ℕ → List ℕ → List ℕ → Type 0
+Span Step a b ws w = (z : List ℕ) → length ws ≡ length z → Chain Step a z ws → Chain Step b z w

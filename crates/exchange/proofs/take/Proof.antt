@@ -7,6 +7,7 @@ use borrow.Author.Needs.{needs}
 use denote.Ref.{now}
 use Rattle.settle.proofs.Putting.{without-stay}
 use Rattle.exchange.specs.Steps.{followed, turned, stuck}
+use Rattle.exchange.proofs.Passes.{partner-has}
 use Rattle.exchange.proofs.Steps.{partner-high}
 use Rattle.exchange.proofs.take.Statement.{statement}
 use Rattle.exchange.proofs.take.Tie as tie
@@ -53,7 +54,10 @@ set-entry-requires-2 c κs = search needs
 
 turn-requires : tie.Need-turn-requires
 turn-requires c κs = let f = c .before .before .before .before .before .before .before .before .before .own-row in
-    (search needs, omega arith, below-other _ _ (f .ensures .upto) (c .before .before .before .before .before .before .before .before .if1 .left), positive _ (c .before .before .before .before .before .if2 .left), partner-high _ _ _ _ (c .before .before .before .before .before .before .partner .ensures), omega arith, omega arith)
+    let l = below-other _ _ (f .ensures .upto) (c .before .before .before .before .before .before .before .before .if1 .left) in
+    let q = c .before .before .before .before .before .before .partner .ensures in
+    let o = positive _ (c .before .before .before .before .before .if2 .left) in
+    (search needs, omega arith, l, o, partner-high _ _ _ _ q, omega arith, omega arith, partner-has _ _ (f .result) _ _ _ _ (omega (arith, l)) o q (c .before .before .before .set-entry2 .ensures))
 
 same-length-3 : tie.Need-same-length-3
 same-length-3 c = search needs

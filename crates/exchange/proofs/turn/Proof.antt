@@ -1,57 +1,80 @@
 -- `exchange::turn` meets its contract.
 -- Assumes nothing.
-use mathlib.Core.Logic.{inl, inr}
-use mathlib.Core.Path.{refl, _∙_}
+use mathlib.Core.Logic.{inl}
+use mathlib.Core.Path.{_≡_, refl, _∙_}
+use Prim.Native.Nat.{_+_, _-_, _/_, _≤_}
 use native.Mathlib.Omega.{arith}
+use lib.ListN.{length}
 use borrow.Author.Needs.{needs}
-use Rattle.tableau.proofs.Runs.{chain-more}
-use Rattle.exchange.specs.Steps.{RowTurned, centre}
+use Rattle.words.proofs.Bits.{bit-same}
+use Rattle.tableau.specs.Layout.{rowAt}
+use Rattle.tableau.specs.Buffer.{Chain}
+use Rattle.exchange.specs.Steps.{RowTurned}
+use Rattle.exchange.proofs.Passes.{pivot-stays}
 use Rattle.exchange.proofs.turn.Statement.{statement}
 use Rattle.exchange.proofs.turn.Tie as tie
 
-put-requires : tie.Need-put-requires
+-- the pass begins at the first row
+abbrev Inv-loop : tie.InvT-loop
+Inv-loop work₀ k p u v b a₀ work a = (a₀ ≡ 0) × (a ≤ k) × Chain (RowTurned p u) a work₀ work × (length work ≡ length work₀)
+
+abbrev μ-loop : tie.MeasureT-loop
+μ-loop work₀ k p u v b a₀ work a = k - a
+
+put-requires : tie.Need-put-requires Inv-loop μ-loop
 put-requires c κs = search needs
 
-turn-span-requires : tie.Need-turn-span-requires
-turn-span-requires c κs = (search needs, omega arith, omega arith, omega arith, omega arith, omega arith, inl (omega arith))
+loop-holds : tie.Need-loop-holds Inv-loop μ-loop
+loop-holds c = (omega arith, omega arith, refl, refl)
 
-point-requires : tie.Need-point-requires
-point-requires c κs = search needs
+block-end-requires : tie.Need-block-end-requires Inv-loop μ-loop
+block-end-requires c κs = search needs
 
-settle-row-requires : tie.Need-settle-row-requires
-settle-row-requires c κs = search needs
+turn-block-requires : tie.Need-turn-block-requires Inv-loop μ-loop
+turn-block-requires c κs = let s = c .before .before .before .before .before .before .before .before .before in
+    let a = s .args in
+    let l = c .before .before .before .loop in
+    let g = c .before .block-end .ensures in
+    let f = c .before .before .before .before .before .before .put in (
+      search needs,
+      g .0,
+      g .2,
+      omega arith,
+      omega arith,
+      omega arith,
+      omega arith,
+      pivot-stays (a .p) (a .u) (omega arith) (a .u - 1) (omega arith) (l .a) _ (l .work) (l .inv .2)
+          ∙ bit-same _ _ (rowAt (a .p)) (rowAt (a .p)) (a .u - 1) (f .ensures .rest (rowAt (a .p) + (a .u - 1) / 64) (inl (omega arith)))
+          ∙ s .pre .7,
+    )
 
-add-turn-span : tie.Need-add-turn-span
-add-turn-span c = search needs
+loop-less : tie.Need-loop-less Inv-loop μ-loop
+loop-less c = search needs
 
-turn-span-requires-2 : tie.Need-turn-span-requires-2
-turn-span-requires-2 c κs = (search needs, omega arith, omega arith, omega arith, omega arith, omega arith, inr (omega arith))
+loop-again : tie.Need-loop-again Inv-loop μ-loop
+loop-again c = let l = c .before .before .before .before .before .before .loop in
+    let t = c .before .before .turn-block in
+    (l .inv .0, c .before .before .before .before .block-end .ensures .1, t .ensures _ (l .inv .3) (l .inv .2), t .kept .0 ∙ l .inv .3)
 
-same-length : tie.Need-same-length
+same-length : tie.Need-same-length Inv-loop μ-loop
 same-length c = search needs
 
-returns : tie.Need-returns
-returns c = let a = c .before .before .before .before .before .before .before .before .before .before .before .before .before .before .before .before .before .before .before .before .before .args in
-    let p = c .before .before .before .before .before .before .before .before .before .before .before .before .before .before .before .before .before .before .put in
-    let f = c .before .before .before .before .before .before .before .before .before .before .before .before .before .before .turn-span in
-    let q = c .before .before .before .before .before .before .before .before .before .before .point in
-    let r = c .before .before .before .before .before .before .settle-row in
-    record {
-      begun = p .last .0;
-      given = p .ensures;
-      turned = c .before .before .turn-span2 .ensures _ (r .kept .0 ∙ q .kept .0 ∙ f .kept .0)
-          (chain-more (RowTurned (a .p) (a .u)) (a .p) _ _ _ (f .kept .0) (f .ensures _ refl refl) (centre refl (rw (q .ensures) at (r .ensures))));
-    }
+returns : tie.Need-returns Inv-loop μ-loop
+returns c = let e : c .before .loop .a ≡ c .before .before .before .before .before .before .before .args .k = omega arith in
+    let p = c .before .before .before .before .put in
+    record { begun = p .last .0; given = p .ensures; turned = rw e at (c .before .loop .inv .2) }
 
 pub turn-spec : {M : Type 1} → statement M
 turn-spec =
     tie.close
     (tie.spec
+    Inv-loop
+    μ-loop
     put-requires
-    turn-span-requires
-    point-requires
-    settle-row-requires
-    add-turn-span
-    turn-span-requires-2
+    loop-holds
+    block-end-requires
+    turn-block-requires
+    loop-less
+    loop-again
     same-length
     returns)

@@ -5,8 +5,9 @@ use native.Mathlib.Omega.{arith}
 use lib.Count.{leadingZeros}
 use lib.ListN.{length}
 use borrow.Author.Needs.{needs}
+use Rattle.words.proofs.Ones.{zeros-lt, rest-less}
 use Rattle.tableau.specs.Layout.{maxVars}
-use Rattle.lists.proofs.Digits.{item-le, zeros-lt, Rest, rest-start, rest-room, rest-next, rest-less, rest-end}
+use Rattle.lists.proofs.Digits.{item-le, Rest, rest-start, rest-room, rest-next, rest-end}
 use Rattle.lists.proofs.list_word.Statement.{statement}
 use Rattle.lists.proofs.list_word.Tie as tie
 
@@ -21,7 +22,7 @@ some : (c : tie.In-loop Inv-loop μ-loop) → 0 < c .before .loop .rest
 some c = omega (arith, c .loop-test .taken)
 
 top : (c : tie.In-loop Inv-loop μ-loop) → leadingZeros 64 (c .before .loop .rest) < 64
-top c = zeros-lt (c .before .loop .rest) (some c) (c .before .loop .inv .fits)
+top c = zeros-lt (c .before .loop .rest) (some c) (c .before .loop .inv .ones .fits)
 
 item : (c : tie.In-loop Inv-loop μ-loop) → let a = c .before .before .args in a .s * (a .base + 64 - (63 - leadingZeros 64 (c .before .loop .rest))) ≤ 2 * maxVars
 item c = item-le _ _ (c .before .before .pre .0) (omega (arith, top c))
@@ -68,7 +69,7 @@ shl-rest : tie.Need-shl-rest Inv-loop μ-loop
 shl-rest c = omega (arith, top c)
 
 loop-less : tie.Need-loop-less Inv-loop μ-loop
-loop-less c = rest-less (c .before .loop .rest) (some c) (c .before .loop .inv .fits)
+loop-less c = rest-less (c .before .loop .rest) (some c) (c .before .loop .inv .ones .fits)
 
 loop-again : tie.Need-loop-again Inv-loop μ-loop
 loop-again c = let a = c .before .before .args in

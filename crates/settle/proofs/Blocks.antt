@@ -1,0 +1,182 @@
+-- ROWS TAKEN 64 AT A TIME: a word says which of them have a variable, and a loop goes over its ones.
+--   Gathered ws q r p x                     x has a digit for each row from q to below r so far, the last the lowest
+--   gathered-none, gathered-more            no row yet; one row more
+--   gathered-small, column-done             there is room for one more; the digits moved up to the top
+--   settled-rows                            a row that is settled keeps all rows
+--   followed-idle, followed-apart           a row without the variable is followed as it is; one that is followed keeps the rows after it
+--   Block Step q e x ws w rest              the loop: the rows up to the last one taken have been stepped over, the others are as they were
+--   block-start, block-end                  before the loop, and when no one is left
+--   block-row, block-has, block-next        the row of the top one is below e and has the variable; it is stepped over
+-- Assumes nothing.
+use mathlib.Core.Path.{_≡_, refl, sym, ap, ap₂, _∙_}
+use mathlib.Core.List.{List}
+use mathlib.Core.Bool.{true, false, true≢false}
+use mathlib.Core.Logic.{inl, inr}
+use Prim.Native.Nat.{ℕ, zero, suc, _+_, _*_, _-_, _/_, _%_, _^_, _<_, _≤_}
+use native.Mathlib.Nat.{div-one, pow-suc, mod-eq-of-lt, mul-le-mul, le-refl, lt-of-lt-of-le}
+use native.Mathlib.Decide.{decLt}
+use native.Mathlib.Omega.{arith}
+use lib.Bits.{bitXor}
+use lib.Count.{leadingZeros}
+use lib.ListN.{length, getD}
+use lib.Pow.{pow-pos, pow-mono, pow-add}
+use Rattle.words.specs.Words.{digit, bitOf, bitAt}
+use Rattle.words.proofs.Bits.{bit-half, bit-same}
+use Rattle.words.proofs.Ones.{high-digit, low-digit, zeros-lt, Left, left-start, left-end, left-seen, left-top, left-skip, left-next}
+use Rattle.tableau.specs.Layout.{maxVars, maxRows, rowAt, knownAt}
+use Rattle.tableau.specs.Buffer.{Chain, Span}
+use Rattle.tableau.proofs.Runs.{chain-more}
+use Rattle.settle.specs.Values.{RowSettled, RowFollowed, Column}
+
+-- ---- the word
+pub record Gathered (ws : List ℕ) (q r p x : ℕ) : Type 0 where
+  pub low : x < 2 ^ (r - q)
+  pub digits : (i : ℕ) → q + i < r → bitOf x (r - suc (q + i)) ≡ bitAt ws (rowAt (q + i)) p
+
+pub gathered-none : (ws : List ℕ) (q p : ℕ) → Gathered ws q q p 0
+gathered-none ws q p = record { low = pow-pos (q - q); digits = λ i l. absurd (omega arith) }
+
+pub gathered-small : (ws : List ℕ) (q r p x : ℕ) → r < q + 64 → Gathered ws q r p x → x < 2 ^ 63
+gathered-small ws q r p x l g = let m : r - q ≤ 63 = omega arith in lt-of-lt-of-le (g .low) (pow-mono m)
+
+double-half : (x y : ℕ) → (2 * x + y % 2) / 2 ≡ x
+double-half x y = omega arith
+
+double-low : (x y : ℕ) → (2 * x + y % 2) % 2 ≡ y % 2
+double-low x y = omega arith
+
+double-lt : (x y n : ℕ) → x < 2 ^ n → 2 * x + y % 2 < 2 ^ suc n
+double-lt x y n l = omega (arith, pow-suc 2 n)
+
+pub gathered-more : (ws : List ℕ) (q r p x : ℕ) → q ≤ r → Gathered ws q r p x → Gathered ws q (r + 1) p (2 * x + getD ws (rowAt r + p / 64) 0 / 2 ^ (63 - p % 64) % 2)
+unfolding bitAt
+gathered-more ws q r p x l g = record { low = low; digits = λ i h. digits i h (decLt (q + i) r) }
+  where
+    word : ℕ
+    word = getD ws (rowAt r + p / 64) 0 / 2 ^ (63 - p % 64)
+
+    low : 2 * x + word % 2 < 2 ^ (r + 1 - q)
+    low = let e : r + 1 - q ≡ suc (r - q) = omega arith in rw e (double-lt x word (r - q) (g .low))
+
+    digits : (i : ℕ) → q + i < r + 1 → Dec (q + i < r) → bitOf (2 * x + word % 2) (r + 1 - suc (q + i)) ≡ bitAt ws (rowAt (q + i)) p
+    digits i h (yes m) =
+        let e : r + 1 - suc (q + i) ≡ suc (r - suc (q + i)) = omega arith in
+        ap (bitOf (2 * x + word % 2)) e ∙ bit-half (2 * x + word % 2) (r - suc (q + i)) ∙ ap (λ (y : ℕ). bitOf y (r - suc (q + i))) (double-half x word) ∙ g .digits i m
+    digits i h (no m) =
+        let e : r + 1 - suc (q + i) ≡ 0 = omega arith in
+        let s : r ≡ q + i = omega arith in
+        ap (bitOf (2 * x + word % 2)) e ∙ ap (λ (y : ℕ). digit (y % 2)) (div-one (2 * x + word % 2)) ∙ ap digit (double-low x word) ∙ ap (λ (y : ℕ). bitAt ws (rowAt y) p) s
+
+pub column-done : (ws : List ℕ) (q e p x : ℕ) → q < e → e ≤ q + 64 → Gathered ws q e p x → Column ws q e p (x * 2 ^ (64 - (e - q)) % 2 ^ 64)
+column-done ws q e p x lo hi g =
+    record {
+      has = λ i a b.
+          let s : 63 - i ≡ 64 - (e - q) + (e - suc (q + i)) = omega arith in
+          ap₂ bitOf whole s ∙ high-digit x (64 - (e - q)) (e - suc (q + i)) ∙ g .digits i b;
+      none = λ i a b.
+          let s : 64 - (e - q) ≡ suc (q + i - e) + (63 - i) = omega arith in
+          ap (λ (y : ℕ). bitOf y (63 - i)) (whole ∙ ap (λ (d : ℕ). x * 2 ^ d) s) ∙ low-digit x (q + i - e) (63 - i);
+    }
+  where
+    product : suc x * 2 ^ (64 - (e - q)) ≤ 2 ^ 64
+    product =
+        let s : e - q + (64 - (e - q)) ≡ 64 = omega arith in
+        rw (← ap (λ (d : ℕ). 2 ^ d) s, pow-add 2 (e - q) (64 - (e - q))) (mul-le-mul (g .low) (le-refl (2 ^ (64 - (e - q)))))
+
+    shifted-lt : (a b : ℕ) → 0 < b → suc a * b ≤ 2 ^ 64 → a * b < 2 ^ 64
+    shifted-lt a b l h = omega (arith, l, h)
+
+    whole : x * 2 ^ (64 - (e - q)) % 2 ^ 64 ≡ x * 2 ^ (64 - (e - q))
+    whole = mod-eq-of-lt (shifted-lt x (2 ^ (64 - (e - q))) (pow-pos (64 - (e - q))) product)
+
+-- ---- steps that keep the rows
+pub settled-rows : (r : ℕ) (ws w : List ℕ) → RowSettled r ws w → (i : ℕ) → i < knownAt → getD w i 0 ≡ getD ws i 0
+settled-rows r ws w (inl h) i l = ap (λ (z : List ℕ). getD z i 0) (h .0)
+settled-rows r ws w (inr h) i l = h .1 .rest i (inl l)
+
+-- a row without the variable is followed as it is
+pub followed-idle : (e p : ℕ) (ws : List ℕ) (r : ℕ) (w : List ℕ) → r < e → bitAt ws (rowAt r) p ≡ false → bitAt w (rowAt r) p ≡ false → RowFollowed p r w w
+followed-idle e p ws r w l f g = inl (refl, g)
+
+pub followed-apart : (p r : ℕ) (ws w : List ℕ) → RowFollowed p r ws w → (i : ℕ) → rowAt (suc r) ≤ i → i < knownAt → getD w i 0 ≡ getD ws i 0
+followed-apart p r ws w (inl h) i o l = ap (λ (z : List ℕ). getD z i 0) (h .0)
+followed-apart p r ws w (inr h) i o l = settled-rows r ws w (h .1) i l
+
+-- ---- the loop over the ones
+pub record Block (Step : ℕ → List ℕ → List ℕ → Type 0) (q e x : ℕ) (ws w : List ℕ) (rest : ℕ) : Type 0 where
+  pub seen : ℕ
+  pub upto : q + seen ≤ e
+  pub ones : Left x seen rest
+  pub going : Span Step q (q + seen) ws w
+  pub same : (i : ℕ) → rowAt (q + seen) ≤ i → i < knownAt → getD w i 0 ≡ getD ws i 0
+  pub len : length w ≡ length ws
+
+-- a chain goes on over rows that change nothing
+chain-on : (Step : ℕ → List ℕ → List ℕ → Type 0) (a n : ℕ) (z w : List ℕ) → length w ≡ length z → ((r : ℕ) → a ≤ r → r < a + n → Step r w w) → Chain Step a z w → Chain Step (a + n) z w
+chain-on Step a zero z w l h c = let e : a + 0 ≡ a = omega arith in rw e c
+chain-on Step a (suc n) z w l h c =
+    let e : a + suc n ≡ a + n + 1 = omega arith in
+    rw e (chain-more Step (a + n) z w w l (chain-on Step a n z w l (λ r f g. h r f (omega arith)) c) (h (a + n) (omega arith) (omega arith)))
+
+pub block-start : (Step : ℕ → List ℕ → List ℕ → Type 0) (q e x : ℕ) (ws : List ℕ) → q ≤ e → x < 2 ^ 64 → Block Step q e x ws ws x
+block-start Step q e x ws l f =
+    record { seen = 0; upto = omega arith; ones = left-start x f; going = λ z h c. let s : q + 0 ≡ q = omega arith in rw s c; same = λ i a b. refl; len = refl }
+
+module _ (Step : ℕ → List ℕ → List ℕ → Type 0) (q e p x : ℕ) (ws : List ℕ) (lp : p < maxVars) (wide : e ≤ q + 64) (rows : e ≤ maxRows) (col : Column ws q e p x)
+    (idle : (r : ℕ) (w : List ℕ) → r < e → bitAt ws (rowAt r) p ≡ false → bitAt w (rowAt r) p ≡ false → Step r w w)
+    (apart : (r : ℕ) (w v : List ℕ) → Step r w v → (i : ℕ) → rowAt (suc r) ≤ i → i < knownAt → getD v i 0 ≡ getD w i 0)
+    (w : List ℕ) (rest : ℕ) (b : Block Step q e x ws w rest) where
+  -- the rows that are not yet stepped over are as they were
+  as-was : (r : ℕ) → q + b .seen ≤ r → r < e → bitAt w (rowAt r) p ≡ bitAt ws (rowAt r) p
+  as-was r l h = bit-same ws w (rowAt r) (rowAt r) p (b .same (rowAt r + p / 64) (omega arith) (omega arith))
+
+  -- over rows whose digits are none
+  on : (n : ℕ) → q + b .seen + n ≤ e → ((i : ℕ) → b .seen ≤ i → i < b .seen + n → bitOf x (63 - i) ≡ false) → Span Step q (q + b .seen + n) ws w
+  on n l h z m c = chain-on Step (q + b .seen) n z w (b .len ∙ m) (λ r f g. idle r w (omega arith) (off r f g) (as-was r f (omega arith) ∙ off r f g)) (b .going z m c)
+    where
+      off : (r : ℕ) → q + b .seen ≤ r → r < q + b .seen + n → bitAt ws (rowAt r) p ≡ false
+      off r f g =
+          let s : r ≡ q + (r - q) = omega arith in
+          ap (λ (y : ℕ). bitAt ws (rowAt y) p) s ∙ sym (col .has (r - q) (omega arith) (omega arith)) ∙ h (r - q) (omega arith) (omega arith)
+
+  pub block-end : rest ≡ 0 → Span Step q e ws w
+  block-end z =
+      let u = b .upto in
+      let s : q + b .seen + (e - (q + b .seen)) ≡ e = omega arith in
+      rw s at (on (e - (q + b .seen)) (omega arith) (λ i f g. left-end x (b .seen) rest (b .ones) z i f (omega arith)))
+
+  module _ (pos : 0 < rest) where
+    abbrev top : ℕ
+    top = leadingZeros 64 rest
+
+    top-lt : top < 64
+    top-lt = zeros-lt rest pos (b .ones .fits)
+
+    pub block-row : q + leadingZeros 64 rest < e
+    block-row = go (decLt (q + top) e)
+      where
+        go : Dec (q + top < e) → q + top < e
+        go (yes h) = h
+        go (no h) = absurd (true≢false (sym (left-top x (b .seen) rest (b .ones) pos) ∙ col .none top top-lt (omega arith)))
+
+    pub block-has : bitAt w (rowAt (q + leadingZeros 64 rest)) p ≡ true
+    block-has = as-was (q + top) (omega (arith, left-seen x (b .seen) rest (b .ones) pos)) block-row ∙ sym (col .has top top-lt block-row) ∙ left-top x (b .seen) rest (b .ones) pos
+
+    pub block-next : (v : List ℕ) → length v ≡ length w → Step (q + leadingZeros 64 rest) w v → Block Step q e x ws v (bitXor rest (1 * 2 ^ (63 - leadingZeros 64 rest) % 2 ^ 64))
+    block-next v l st =
+        record {
+          seen = suc top;
+          upto = omega (arith, block-row);
+          ones = left-next x (b .seen) rest (b .ones) pos;
+          going = λ z m c.
+              let n : q + suc top ≡ q + top + 1 = omega arith in
+              rw n (chain-more Step (q + top) z w v (b .len ∙ m) (before z m c) st);
+          same = λ i f g. apart (q + top) w v st i (omega arith) g ∙ b .same i (omega (arith, left-seen x (b .seen) rest (b .ones) pos)) g;
+          len = l ∙ b .len;
+        }
+      where
+        before : Span Step q (q + top) ws w
+        before =
+            let f = left-seen x (b .seen) rest (b .ones) pos in
+            let s : q + b .seen + (top - b .seen) ≡ q + top = omega arith in
+            rw s at (on (top - b .seen) (omega (arith, block-row)) (λ i g h. left-skip x (b .seen) rest (b .ones) pos i g (omega arith)))
