@@ -1,6 +1,4 @@
 // Assuming: a basic variable is exchanged, and the literal is taken.
-use settle::block_end;
-use settle::column;
 use settle::follow;
 use settle::put;
 use settle::settle_row;
@@ -9,6 +7,8 @@ use tableau::LAST;
 use tableau::ROW;
 use tableau::TRUTH;
 use tableau::add_row;
+use tableau::block_end;
+use tableau::column;
 use tableau::set_entry;
 use words::bit;
 use words::own;

@@ -11,7 +11,6 @@
 --   RowFollowed p r ws w  row r has been settled, if it has variable p + 1
 --   Without ws a p        no row below a has variable p + 1
 --   Followed k p b ws w   variable p + 1 has been given the value b, and the rows below k that have it have been settled
---   Column ws q e p x     which rows from q to below e have variable p + 1: a digit of x each, the top one for row q
 -- Assumes nothing.
 use mathlib.Core.Path.{_≡_}
 use mathlib.Core.List.{List}
@@ -80,7 +79,3 @@ pub record Followed (k p : ℕ) (b : Bool) (ws w : List ℕ) : Type 0 where
   pub begun : List ℕ
   pub given : Put p b ws begun
   pub settled : Chain (RowFollowed p) k begun w
-
-pub record Column (ws : List ℕ) (q e p x : ℕ) : Type 0 where
-  pub has : (i : ℕ) → i < 64 → q + i < e → bitOf x (63 - i) ≡ bitAt ws (rowAt (q + i)) p
-  pub none : (i : ℕ) → i < 64 → e ≤ q + i → bitOf x (63 - i) ≡ false

@@ -4,6 +4,8 @@ use tableau::KNOWN;
 use tableau::LAST;
 use tableau::ROW;
 use tableau::TRUTH;
+use tableau::block_end;
+use tableau::column;
 use tableau::copy_truth;
 use tableau::entry;
 use tableau::load;
@@ -14,7 +16,7 @@ ghost use Prim.Native.Nat.{_+_, _-_, _<_, _≤_};
 ghost use lib.ListN.{length};
 ghost use Rattle.tableau.specs.Layout.{coefWords, maxVars, maxRows, maxTaken, knownAt, size};
 ghost use Rattle.tableau.specs.Buffer.{Run, Chain, Span};
-ghost use Rattle.settle.specs.Values.{Overlay, Full, Put, valueAt, Ready, RowSettled, EntrySet, Restarted, RowFollowed, Without, Followed, Column};
+ghost use Rattle.settle.specs.Values.{Overlay, Full, Put, valueAt, Ready, RowSettled, EntrySet, Restarted, RowFollowed, Without, Followed};
 
 // Variable v gets the value b.
 pub fn put(work: &mut [u64], v: usize, b: bool)
@@ -175,31 +177,6 @@ pub fn restart(work: &mut [u64], k: usize, d: usize)
     clear_values(work);
     put_entries(work, d);
     settle(work, k);
-}
-
-// Where the rows from q on end that are taken together: 64 at most, and below k.
-pub fn block_end(q: usize, k: usize) -> usize
-    requires { ⌜ (q < k) × (k ≤ maxRows) ⌝ }
-    ensures { λ e. ⌜ (q < e) × (e ≤ k) × (e ≤ q + 64) ⌝ }
-{
-    if k - q < 64 { k } else { q + 64 }
-}
-
-// Which rows from q to below e, 64 at most, have the variable v: a digit each, the top one for row q. Nothing is asked row by row, since which of them have it cannot be foreseen.
-pub fn column(work: &[u64], q: usize, e: usize, v: usize) -> u64
-    requires { ⌜ (size ≤ length (now work)) × (q < e) × (e ≤ q + 64) × (e ≤ maxRows) × (0 < v) × (v ≤ maxVars) ⌝ }
-    ensures { λ x. ⌜ Column (now (work .entry)) q e (v - 1) x ⌝ }
-{
-    let p = v - 1;
-    let j = p / 64;
-    let d = 63 - p % 64;
-    let mut x = 0;
-    let mut r = q;
-    while r < e {
-        x = 2 * x + (work[ROW * r + j] >> d) % 2;
-        r += 1;
-    }
-    x << (64 - (e - q))
 }
 
 // Each row from q to below e, 64 at most, that has the variable v gives its basic variable a value, if it does.

@@ -1,3 +1,4 @@
 pub mod Runs
 pub mod Adding
 pub mod Reading
+pub mod Columns

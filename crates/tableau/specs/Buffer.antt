@@ -4,16 +4,17 @@
 --   basicAt, parityAt       the basic variable and the parity of a row
 --   entryAt                 an entry of the record; Recorded: one has been set
 --   Added f t ws w          row f has been added into row t, which keeps its basic variable
+--   Column ws q e p x       which rows from q to below e have variable p + 1: a digit of x each, the top one for row q
 --   Chain Step k ws w       the steps 0 .. k - 1 one after another; Span Step a b: the steps a .. b - 1, as a chain goes on
 -- Assumes nothing.
 use mathlib.Core.Path.{_≡_}
 use mathlib.Core.List.{List}
 use mathlib.Core.Logic.{_≢_, _⊎_}
-use mathlib.Core.Bool.{Bool}
-use Prim.Native.Nat.{ℕ, zero, suc, _+_, _*_, _/_, _%_, _<_, _≤_}
+use mathlib.Core.Bool.{Bool, false}
+use Prim.Native.Nat.{ℕ, zero, suc, _+_, _*_, _-_, _/_, _%_, _<_, _≤_}
 use lib.ListN.{length, getD}
 use lib.Bits.{bitXor}
-use Rattle.words.specs.Words.{digit}
+use Rattle.words.specs.Words.{digit, bitOf, bitAt}
 use Rattle.tableau.specs.Layout.{coefWords, fromWords, rowSize, rowAt, lastAt, recordAt}
 
 pub record Run (off k : ℕ) (want : ℕ → ℕ) (ws w : List ℕ) : Type 0 where
@@ -44,6 +45,10 @@ pub record Added (f t : ℕ) (ws w : List ℕ) : Type 0 where
   pub bits : (j : ℕ) → j < coefWords + fromWords → getD w (rowAt t + j) 0 ≡ bitXor (getD ws (rowAt t + j) 0) (getD ws (rowAt f + j) 0)
   pub last : getD w (lastAt t) 0 ≡ getD ws (lastAt t) 0 / 2 * 2 + (getD ws (lastAt t) 0 % 2 + getD ws (lastAt f) 0 % 2) % 2
   pub rest : (i : ℕ) → (i < rowAt t) ⊎ (rowAt t + rowSize ≤ i) → getD w i 0 ≡ getD ws i 0
+
+pub record Column (ws : List ℕ) (q e p x : ℕ) : Type 0 where
+  pub has : (i : ℕ) → i < 64 → q + i < e → bitOf x (63 - i) ≡ bitAt ws (rowAt (q + i)) p
+  pub none : (i : ℕ) → i < 64 → e ≤ q + i → bitOf x (63 - i) ≡ false
 
 abbrev pub Chain : (ℕ → List ℕ → List ℕ → Type 0) → ℕ → List ℕ → List ℕ → Type 0
 Chain Step zero ws w = w ≡ ws

@@ -4,8 +4,8 @@ use words::sum_from;
 ghost use mathlib.Core.Path.{_≡_};
 ghost use Prim.Native.Nat.{_+_, _*_, _-_, _<_, _≤_};
 ghost use lib.ListN.{length, getD};
-ghost use Rattle.tableau.specs.Layout.{coefWords, fromWords, maxRows, maxTaken, rowAt, fromAt, knownAt, truthAt, size};
-ghost use Rattle.tableau.specs.Buffer.{Run, Reads, Added, entryAt, Recorded};
+ghost use Rattle.tableau.specs.Layout.{coefWords, fromWords, maxVars, maxRows, maxTaken, rowAt, fromAt, knownAt, truthAt, size};
+ghost use Rattle.tableau.specs.Buffer.{Run, Reads, Added, entryAt, Recorded, Column};
 
 // Past the code of the last literal.
 pub const CODES: u64 = 1026;
@@ -124,4 +124,29 @@ pub fn copy_truth(work: &[u64]) -> [u64; 8]
     ensures { λ x. ⌜ Reads coefWords (now (work .entry)) truthAt x ⌝ }
 {
     words_at(work, TRUTH)
+}
+
+// Where the rows from q on end that are taken together: 64 at most, and below k.
+pub fn block_end(q: usize, k: usize) -> usize
+    requires { ⌜ (q < k) × (k ≤ maxRows) ⌝ }
+    ensures { λ e. ⌜ (q < e) × (e ≤ k) × (e ≤ q + 64) ⌝ }
+{
+    if k - q < 64 { k } else { q + 64 }
+}
+
+// Which rows from q to below e, 64 at most, have the variable v: a digit each, the top one for row q. Nothing is asked row by row, since which of them have it cannot be foreseen.
+pub fn column(work: &[u64], q: usize, e: usize, v: usize) -> u64
+    requires { ⌜ (size ≤ length (now work)) × (q < e) × (e ≤ q + 64) × (e ≤ maxRows) × (0 < v) × (v ≤ maxVars) ⌝ }
+    ensures { λ x. ⌜ Column (now (work .entry)) q e (v - 1) x ⌝ }
+{
+    let p = v - 1;
+    let j = p / 64;
+    let d = 63 - p % 64;
+    let mut x = 0;
+    let mut r = q;
+    while r < e {
+        x = 2 * x + (work[ROW * r + j] >> d) % 2;
+        r += 1;
+    }
+    x << (64 - (e - q))
 }

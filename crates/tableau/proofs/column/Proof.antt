@@ -1,13 +1,13 @@
--- `settle::column` meets its contract.
+-- `tableau::column` meets its contract.
 -- Assumes nothing.
 use mathlib.Core.Path.{_≡_}
 use Prim.Native.Nat.{_-_, _^_, _<_, _≤_}
 use native.Mathlib.Omega.{arith}
 use borrow.Author.Needs.{needs}
 use denote.Ref.{now}
-use Rattle.settle.proofs.Blocks.{Gathered, gathered-none, gathered-more, gathered-small, column-done}
-use Rattle.settle.proofs.column.Statement.{statement}
-use Rattle.settle.proofs.column.Tie as tie
+use Rattle.tableau.proofs.Columns.{Gathered, gathered-none, gathered-more, gathered-small, column-done}
+use Rattle.tableau.proofs.column.Statement.{statement}
+use Rattle.tableau.proofs.column.Tie as tie
 
 abbrev Inv-loop : tie.InvT-loop
 Inv-loop work q e v p j d x₀ r₀ x r = (q ≤ r) × (r ≤ e) × Gathered work q r (v - 1) x
