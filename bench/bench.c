@@ -1,7 +1,8 @@
 /* bench [--smoke] [REPORT PLOT]: times the module against plain C and M4RI in one process, so that the ratios mean
  * something on any machine. The systems are seeded, several of a kind, so that no contestant meets the same one twice in
  * a row. In every round all contestants take their turn, one after another; a turn's time is that of its best batch of
- * calls, and a ratio is the median over the rounds. */
+ * calls, each batch over all systems, and for the calls of a search the mean over all systems. A ratio is the median over
+ * the rounds. */
 #define _POSIX_C_SOURCE 199309L
 #include "bench.h"
 #include <stdio.h>
@@ -98,7 +99,8 @@ static double take_turn(void (*contestant)(void))
     return best;
 }
 
-/* ---- a search in the small: assume all variables in a random order, explain each, go back in steps ---- */
+/* ---- a search in the small: assume all variables in a random order, explain each, go back in steps; each part adds
+ * what one call took on the system at hand ---- */
 
 static void take_all(double *us, uint64_t *seed)
 {
@@ -113,7 +115,7 @@ static void take_all(double *us, uint64_t *seed)
     start = now_us();
     for (i = 0; i < n; i++)
         header = parity_assume(header, work, PARITY_WORK_WORDS, literals, PARITY_MAX_VARIABLES, order[i]).header;
-    keep_best(&us[ASSUME], (now_us() - start) / (double)n);
+    us[ASSUME] += (now_us() - start) / (double)n;
 }
 
 static void explain_all(double *us)
@@ -122,7 +124,7 @@ static void explain_all(double *us)
     size_t v;
     for (v = 1; v <= now->n; v++)
         parity_explain(header, work, PARITY_WORK_WORDS, literals, PARITY_MAX_VARIABLES, rows, PARITY_MAX_ROWS, v);
-    keep_best(&us[EXPLAIN], (now_us() - start) / (double)now->n);
+    us[EXPLAIN] += (now_us() - start) / (double)now->n;
 }
 
 static void go_back(double *us)
@@ -132,7 +134,7 @@ static void go_back(double *us)
     for (; header.depth > 0; steps++)
         must(parity_back(&header, work, PARITY_WORK_WORDS, header.depth - (header.depth + 7) / 8) == PARITY_DONE,
              "back refused");
-    keep_best(&us[BACK], (now_us() - start) / steps);
+    us[BACK] += (now_us() - start) / steps;
 }
 
 static void search(double *us, uint64_t *seed)
@@ -143,6 +145,9 @@ static void search(double *us, uint64_t *seed)
         explain_all(us);
         go_back(us);
     }
+    us[ASSUME] /= (double)(end - samples);
+    us[EXPLAIN] /= (double)(end - samples);
+    us[BACK] /= (double)(end - samples);
 }
 
 /* ---- one kind of system ---- */
