@@ -1,8 +1,8 @@
 /* bench [--smoke] [REPORT PLOT]: times the module against plain C and M4RI in one process, so that the ratios mean
  * something on any machine. The systems are seeded, several of a kind, so that no contestant meets the same one twice in
  * a row. In every round all contestants take their turn, one after another; a turn's time is that of its best batch of
- * calls, each batch over all systems, and for the calls of a search the mean over all systems. A ratio is the median over
- * the rounds. */
+ * calls, each batch over all systems, and for the calls of a search the mean over all systems. A ratio is the median
+ * over the rounds. */
 #define _POSIX_C_SOURCE 199309L
 #include "bench.h"
 #include <stdio.h>
@@ -99,55 +99,106 @@ static double take_turn(void (*contestant)(void))
     return best;
 }
 
-/* ---- a search in the small: assume all variables in a random order, explain each, go back in steps; each part adds
- * what one call took on the system at hand ---- */
+/* ---- a search in the small: a literal of each variable is offered, in a random order; each implied variable is
+ * explained; then back in steps of an eighth. About half of the literals are taken, the others have a value by then.
+ * Each part adds what one call took on the system at hand. ---- */
 
-static void take_all(double *us, uint64_t *seed)
+static uint64_t offered[PARITY_MAX_VARIABLES], taken[PARITY_MAX_VARIABLES], implied[PARITY_MAX_VARIABLES];
+static size_t takes, implies;
+
+static uint64_t assume(uint64_t code)
 {
-    uint64_t order[PARITY_MAX_VARIABLES];
-    size_t n = now->n, i;
-    double start;
-    for (i = 0; i < n; i++) {
-        size_t other = random_word(seed) % (i + 1);
-        order[i] = order[other];
-        order[other] = 2 * (i + 1) + random_word(seed) % 2;
-    }
-    start = now_us();
-    for (i = 0; i < n; i++)
-        header = parity_assume(header, work, PARITY_WORK_WORDS, literals, PARITY_MAX_VARIABLES, order[i]).header;
-    us[ASSUME] += (now_us() - start) / (double)n;
+    parity_assuming a = parity_assume(header, work, PARITY_WORK_WORDS, literals, PARITY_MAX_VARIABLES, code);
+    header = a.header;
+    return a.number;
 }
 
-static void explain_all(double *us)
+static void shuffle(uint64_t *seed)
+{
+    size_t i;
+    for (i = 0; i < now->n; i++) {
+        size_t other = random_word(seed) % (i + 1);
+        offered[i] = offered[other];
+        offered[other] = 2 * (i + 1) + random_word(seed) % 2;
+    }
+}
+
+/* Which literals are taken, and which variables are implied. */
+static void rehearse(void)
+{
+    size_t i;
+    takes = implies = 0;
+    do_open();
+    for (i = 0; i < now->n; i++)
+        if (assume(offered[i]) == PARITY_DONE)
+            taken[takes++] = offered[i];
+        else
+            implied[implies++] = offered[i] / 2;
+    must(takes == header.depth && implies == header.kept, "not one variable implied for each kept row");
+}
+
+static double take(const uint64_t *codes, size_t count)
+{
+    double start, us;
+    size_t i;
+    do_open();
+    start = now_us();
+    for (i = 0; i < count; i++)
+        assume(codes[i]);
+    us = (now_us() - start) / (double)count;
+    must(header.depth == takes, "other literals were taken");
+    return us;
+}
+
+static double take_bare(void)
+{
+    const bare_search *bare = bare_for(now->n, now->m);
+    double start, us;
+    size_t done = 0, i;
+    if (bare == NULL)
+        return 0;
+    bare->start(plain_rows, plain_eliminate[0](now->store, now->m, plain_rows));
+    start = now_us();
+    for (i = 0; i < takes; i++)
+        done += bare->assume(taken[i], literals) != BARE_HAD;
+    us = (now_us() - start) / (double)takes;
+    must(done == takes, "the bare step took other literals");
+    return us;
+}
+
+static double explain_all(void)
 {
     double start = now_us();
-    size_t v;
-    for (v = 1; v <= now->n; v++)
-        parity_explain(header, work, PARITY_WORK_WORDS, literals, PARITY_MAX_VARIABLES, rows, PARITY_MAX_ROWS, v);
-    us[EXPLAIN] += (now_us() - start) / (double)now->n;
+    size_t done = 0, i;
+    for (i = 0; i < implies; i++)
+        done += parity_explain(header, work, PARITY_WORK_WORDS, literals, PARITY_MAX_VARIABLES, rows, PARITY_MAX_ROWS,
+                               implied[i]).number == PARITY_DONE;
+    must(done == implies, "explain refused");
+    return (now_us() - start) / (double)implies;
 }
 
-static void go_back(double *us)
+static double go_back(void)
 {
     double start = now_us();
     int steps = 0;
     for (; header.depth > 0; steps++)
         must(parity_back(&header, work, PARITY_WORK_WORDS, header.depth - (header.depth + 7) / 8) == PARITY_DONE,
              "back refused");
-    us[BACK] += (now_us() - start) / steps;
+    return (now_us() - start) / steps;
 }
 
 static void search(double *us, uint64_t *seed)
 {
+    double systems = (double)(end - samples);
     for (now = samples; now < end; now++) {
-        do_open();
-        take_all(us, seed);
-        explain_all(us);
-        go_back(us);
+        shuffle(seed);
+        rehearse();
+        us[ASSUME] += take(offered, now->n) / systems;
+        us[TAKE] += take(taken, takes) / systems;
+        us[BARE] += take_bare() / systems;
+        us[EXPLAIN] += explain_all() / systems;
+        us[BACK] += go_back() / systems;
     }
-    us[ASSUME] /= (double)(end - samples);
-    us[EXPLAIN] /= (double)(end - samples);
-    us[BACK] /= (double)(end - samples);
 }
 
 /* ---- one kind of system ---- */

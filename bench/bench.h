@@ -32,6 +32,18 @@ enum { PLACEMENTS = 4 }; /* the same elimination at four places in a cache line 
 /* the rows kept; none where they contradict */
 extern size_t (*const plain_eliminate[PLACEMENTS])(const uint64_t *store, size_t m, plain_row *rows);
 
+/* ---- bare.c: the step of assume and nothing else, for n = 64, 256 and 512 and m = n / 2 ---- */
+
+enum { BARE_HAD = -1 };
+
+typedef struct {
+    size_t n;
+    void (*start)(const plain_row *rows, size_t kept); /* from an elimination, no literal taken */
+    int (*assume)(uint64_t code, uint64_t *literals);  /* how many are newly implied, or BARE_HAD: it had a value */
+} bare_search;
+
+const bare_search *bare_for(size_t n, size_t m); /* or NULL */
+
 /* ---- four_russians.c: M4RI, where it is installed ---- */
 
 int m4ri_there(void);
@@ -41,7 +53,7 @@ void m4ri_end(void);
 
 /* ---- report.c ---- */
 
-typedef enum { READ, WRITE, OPEN, DECODE, PLAIN, M4RI, ASSUME, BACK, EXPLAIN, TURNS } turn_of;
+typedef enum { READ, WRITE, OPEN, DECODE, PLAIN, M4RI, ASSUME, TAKE, BARE, BACK, EXPLAIN, TURNS } turn_of;
 
 enum { ROUNDS = 15 };
 
@@ -49,7 +61,7 @@ typedef struct {
     family family;
     size_t n, m;
     int rounds;
-    double us[ROUNDS][TURNS]; /* microseconds a call, by round; M4RI's are 0 where it is missing */
+    double us[ROUNDS][TURNS]; /* microseconds a call, by round; 0 for a contestant that is missing */
 } timing;
 
 enum { SYSTEMS = 9, STEPS = 8 };

@@ -42,9 +42,9 @@ static double m4ri_us(const double *us)
     return us[M4RI];
 }
 
-static double assume_us(const double *us)
+static double take_us(const double *us)
 {
-    return us[ASSUME];
+    return us[TAKE];
 }
 
 static double back_us(const double *us)
@@ -82,6 +82,21 @@ static double assume_open(const double *us)
     return by(us[ASSUME], us[OPEN]);
 }
 
+static double take_open(const double *us)
+{
+    return by(us[TAKE], us[OPEN]);
+}
+
+static double take_bare(const double *us)
+{
+    return by(us[TAKE], us[BARE]);
+}
+
+static double bare_open(const double *us)
+{
+    return by(us[BARE], us[OPEN]);
+}
+
 static double back_open(const double *us)
 {
     return by(us[BACK], us[OPEN]);
@@ -92,9 +107,9 @@ static double explain_open(const double *us)
     return by(us[EXPLAIN], us[OPEN]);
 }
 
-static double explain_assume(const double *us)
+static double explain_take(const double *us)
 {
-    return by(us[EXPLAIN], us[ASSUME]);
+    return by(us[EXPLAIN], us[TAKE]);
 }
 
 /* What the plot and the growth tables show; plain C's decode counts as M4RI's does. */
@@ -102,7 +117,7 @@ static const struct {
     const char *name, *colour;
     double (*time)(const double *us);
 } curves[] = {{"open", "#b03060", open_us},     {"plain C", "#4060b0", plain_us}, {"M4RI", "#308050", m4ri_us},
-              {"assume", "#c07030", assume_us}, {"back", "#8050a0", back_us},     {"explain", "#707070", explain_us}};
+              {"take", "#c07030", take_us}, {"back", "#8050a0", back_us},     {"explain", "#707070", explain_us}};
 
 enum { CURVES = 6, OF_M4RI = 2 };
 
@@ -127,10 +142,11 @@ static const struct {
     const char *name;
     double (*of)(const double *us);
 } ratios[] = {{"open/M4RI", open_m4ri},      {"elim/plain", elim_plain},   {"read/open", read_open},
-              {"write/read", write_read},    {"assume/open", assume_open}, {"back/open", back_open},
+              {"write/read", write_read},    {"assume/open", assume_open}, {"take/open", take_open},
+              {"bare/open", bare_open},      {"take/bare", take_bare},     {"back/open", back_open},
               {"explain/open", explain_open}};
 
-enum { RATIOS = 7 };
+enum { RATIOS = 10 };
 
 /* A number, or a dash for one that is missing. */
 static void cell(FILE *out, int width, int decimals, double number)
@@ -211,13 +227,19 @@ void write_report(FILE *out, const results *r)
             "coefficients, parity and provenance\n"
             "- elim/plain: opening less reading, against the same elimination in plain C (`bench/plain.c`, gcc -O3, "
             "the best of four placements in memory)\n"
-            "- the others: one call against one opening, or against one reading\n\n");
+            "- assume/open: a literal of each variable, offered in a random order; about half are taken, the others have "
+            "a value by then\n"
+            "- take/open: the taken ones alone\n"
+            "- bare/open, take/bare: the taken ones by the step of assume in C with nothing around it, compiled for "
+            "exactly this size (`bench/bare.c`): what the method costs\n"
+            "- back/open: steps of an eighth of the depth; explain/open: each implied variable\n\n");
     system_table(out, r);
     fprintf(out, "\n## Aims\n\n");
     aim(out, r, "open/M4RI", open_m4ri, 1.0, 0);
     aim(out, r, "elim/plain", elim_plain, 1.2, 0);
     aim(out, r, "assume/open", assume_open, 0.01, 0);
-    aim(out, r, "explain against assume", explain_assume, 1.0, 0);
+    aim(out, r, "take/open", take_open, 0.01, 0);
+    aim(out, r, "explain against take", explain_take, 1.0, 0);
     aim(out, r, "read/open, for 256 rows of 512 variables,", read_open, 0.1, 512);
     aim(out, r, "write/read, for 256 rows of 512 variables,", write_read, 2.0, 512);
     fprintf(out, "\n## Growth: dense, m = n / 2, microseconds\n\n");

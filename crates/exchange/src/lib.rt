@@ -100,11 +100,10 @@ pub fn turn_row(work: &mut [u64], p: usize, u: usize, r: usize)
 {
     if r == p {
         point(work, r, u);
-        settle_row(work, r);
     } else {
         add_row(work, p, r);
-        settle_row(work, r);
     }
+    settle_row(work, r);
 }
 
 // Each row from q to below e, 64 at most, that has the variable u is turned; row p, which has it, too if it is one of them.

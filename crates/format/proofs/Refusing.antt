@@ -1,17 +1,18 @@
 -- CHECKS IN ORDER, and checks of two conditions.
 --   accepted                 no refusal: no check holds
+--   without, never           no check has the number k, so no refusal has it
 --   append-some, append-none  more checks after these: they are reached only where none of these holds
 --   either-.., none-either   one of two conditions holds; neither does
 -- Assumes nothing.
 use mathlib.Core.Path.{_≡_, refl}
-use mathlib.Core.Bool.{Bool, true, false, _||_, _&&_, true≢false}
+use mathlib.Core.Bool.{Bool, true, false, not, _||_, _&&_, true≢false}
 use mathlib.Core.List.{List, [], _∷_, _++_}
-use lib.Dec.{ltb}
+use lib.Dec.{eqb, ltb}
 use Prim.Native.Nat.{ℕ, suc}
 use native.Mathlib.Omega.{arith}
 use borrow.Author.Tests.{ltb-true}
 use Rattle.gf2.specs.Lists.{All}
-use Rattle.gf2.proofs.Search.{and-both}
+use Rattle.gf2.proofs.Search.{and-both, not-true}
 use Rattle.format.specs.Refusals.{Check, unless, refusal}
 
 -- no check has the number 0
@@ -26,6 +27,19 @@ accepted (c ∷ cs) p h = go (accepted cs (and-both (ltb 0 (c .number)) (positiv
     go : (refusal cs ≡ 0 → All (λ c. c .fails ≡ false) cs) → (b : Bool) → c .fails ≡ b → unless b (c .number) (refusal cs) ≡ 0 → All (λ c. c .fails ≡ false) (c ∷ cs)
     go rest true e f = let l = ltb-true 0 (c .number) (and-both (ltb 0 (c .number)) (positive cs) p .0) in absurd (omega arith)
     go rest false e f = (e, rest f)
+
+-- no check has the number k
+abbrev pub without : ℕ → List Check → Bool
+without k [] = true
+without k (c ∷ cs) = not (eqb (c .number) k) && without k cs
+
+pub never : (k : ℕ) (cs : List Check) → without k cs ≡ true → (j : ℕ) → refusal cs ≡ suc j → eqb (suc j) k ≡ false
+never k [] p j h = absurd (omega arith)
+never k (c ∷ cs) p j h = go (never k cs (and-both (not (eqb (c .number) k)) (without k cs) p .1) j) (c .fails) h
+  where
+    go : (refusal cs ≡ suc j → eqb (suc j) k ≡ false) → (b : Bool) → unless b (c .number) (refusal cs) ≡ suc j → eqb (suc j) k ≡ false
+    go rest true e = rw (← e) (not-true (eqb (c .number) k) (and-both (not (eqb (c .number) k)) (without k cs) p .0))
+    go rest false e = rest e
 
 pub append-some : (cs ds : List Check) (j : ℕ) → refusal cs ≡ suc j → refusal (cs ++ ds) ≡ suc j
 append-some [] ds j h = absurd (omega arith)

@@ -1,4 +1,5 @@
--- LAWS OF THE ROWS THAT ARE READ, as words of the row store.
+-- LAWS OF THE ROWS THAT ARE READ, as constraints and as words of the row store.
+--   rows-ascend               the numbers of the constraints ascend
 --   full c                    coefficients and zeros behind them, 512 bits
 --   front c w                 the first w words of these, and zeros behind them, eight words
 --   words-read, row-read      one word of a row is read; the row is read
@@ -7,7 +8,7 @@
 --   store-fits                every word is below 2 ^ 64
 -- Assumes nothing.
 use mathlib.Core.Bool.{Bool, false}
-use mathlib.Core.List.{List, [], _∷_, _++_, append-assoc, append-nil}
+use mathlib.Core.List.{List, [], _∷_, _++_, map, append-assoc, append-nil}
 use mathlib.Core.Logic.{_⊎_, ⊎-elim}
 use mathlib.Core.Path.{_≡_, refl, sym, ap, ap₂, _∙_}
 use Prim.Native.Nat.{ℕ, zero, suc, _+_, _-_, _*_, _/_, _%_, _^_, _≤_, _<_, min}
@@ -17,16 +18,29 @@ use native.Mathlib.Omega.{arith}
 use lib.ListN.{drop, length, take, length-append, length-drop, getD, length-take, replicate, set}
 use lib.Pow.{pow-mono, shl-exact}
 use lib.Seq.{take-at, drop-append-add, drop-drop, length-take-le, append-snoc, set-at}
+use Rattle.gf2.specs.Lists.{All, Ascending}
 use Rattle.format.proofs.Digits.{valueOf-lt, valueOf-pad}
 use Rattle.format.proofs.Runs.{drop-take, take-min, take-pad, drop-pad, drop-all}
 use Rattle.format.proofs.Values.{field-lt, value-front, value-back}
 use Rattle.format.specs.Bits.{valueOf}
-use Rattle.format.specs.Sheet.{wordAt, wordsOf, rowWords, storeWords}
+use Rattle.format.specs.Sheet.{rowsFrom, wordAt, wordsOf, rowWords, storeWords}
+
+-- ---- numbers
+
+rows-above : (a k n m : ℕ) (bs : List Bool) → a < k → All (λ y. a < y) (map (λ c. c .number) (rowsFrom k n m bs))
+unfolding rowsFrom
+rows-above a k n zero bs l = tt
+rows-above a k n (suc m) bs l = (l, rows-above a (suc k) n m (drop (n + 1) bs) (omega arith))
+
+pub rows-ascend : (k n m : ℕ) (bs : List Bool) → Ascending (map (λ c. c .number) (rowsFrom k n m bs))
+unfolding rowsFrom
+rows-ascend k n zero bs = tt
+rows-ascend k n (suc m) bs = (rows-above k (suc k) n m (drop (n + 1) bs) (omega arith), rows-ascend (suc k) n m (drop (n + 1) bs))
+
+-- ---- words
 
 abbrev pub full : List Bool → List Bool
 full c = c ++ replicate (512 - length c) false
-
--- ---- words
 
 pub length-wordsOf : (k : ℕ) (bs : List Bool) → length (wordsOf k bs) ≡ k
 unfolding wordsOf

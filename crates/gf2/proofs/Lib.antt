@@ -13,7 +13,7 @@ pub mod Reach
 pub mod Explained
 pub mod Sure
 pub mod Chosen
-pub mod Demand
+pub mod Next
 pub mod Scans
 pub mod RowExplains
 pub mod Values

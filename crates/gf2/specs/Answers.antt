@@ -1,15 +1,16 @@
 -- THE ANSWERS of open, assume, back and explain, for a position (document 01, "Opening" to "Going back and explaining").
 --   code, variable, value, negation   literals: 2 × variable for true, 2 × variable + 1 for false
 --   Literal n l, Has a l              l is a literal of 1 .. n; the assignment makes it true
---   literalRow l                      l as a row: its variable ≡ its value
+--   literalRow l, literals            l as a row: its variable ≡ its value; a list of literals as rows
 --   Position                          the constraints last opened and the surviving assumptions, in the order in which they were taken
 --   start, assumed, withdrawn         nothing taken; one literal more; back to a depth
 --   Solves, Implied, Conflict         the assignment satisfies all; every such one has l; none has
---   AnswersOpen, AnswersAssume        what open and assume answer; moved: the position after an assume
+--   OpenAnswer, AssumeAnswer, ExplainAnswer   what the calls can answer
+--   AnswersOpen, AnswersAssume        which answer is right; New: a literal is newly implied; moved: the position after an assume
 --   Explains, AnswersExplain          the set of kept rows and assumptions whose sum is l; what explain answers
 --   Explanation                       that answer, with demand 3's last sentence: the one set, and no smaller one will do
 --   Unexplained                       refusal 10
---   Fresh, Reached                    a position that calls lead to
+--   NoValue, Fresh, Reached           a literal without a value; literals taken one after another, each without a value; a position that calls lead to
 -- Assumes nothing.
 use mathlib.Core.Path.{_≡_}
 use mathlib.Core.Logic.{_≢_, _⊎_}

@@ -1,5 +1,5 @@
 -- DEMAND 3: calls and their answers, the position that they lead to, and which answers are right there.
---   Event       a call with its answer; a refusal is one of any call
+--   Event       a call with its answer. Two refusals look at the state and stand by themselves: explain's 10 and assume's 12
 --   after s e   what is open after it: the constraints last opened and the surviving assumptions, or nothing
 --   Right s e   the answer is the definition's for what is open before it
 --   Runs, at-end   each answer of a run of calls is right where it is given; what is open after the run
@@ -9,13 +9,15 @@ use mathlib.Core.List.{List, [], _∷_}
 use lib.ListN.{length}
 use Prim.Native.Nat.{ℕ, _≤_}
 use Rattle.gf2.specs.Rows.{Var, Rows}
-use Rattle.gf2.specs.Answers.{Literal, Position, start, withdrawn, moved, OpenAnswer, unsatisfiable, opened, AnswersOpen, AssumeAnswer, AnswersAssume, ExplainAnswer, AnswersExplain, Unexplained}
+use Rattle.gf2.specs.Answers.{Literal, Position, start, withdrawn, moved, OpenAnswer, unsatisfiable, opened, AnswersOpen, AssumeAnswer, AnswersAssume, ExplainAnswer, Explanation, Unexplained}
 
 pub data Event : Type 0 where
   opens : ℕ → Rows → OpenAnswer → Event
   assumes : ℕ → AssumeAnswer → Event
   backs : ℕ → Event
   explains : ℕ → ExplainAnswer → Event
+  unexplained : ℕ → Event
+  stuck : ℕ → Event
   refused : ℕ → Event
 
 abbrev pub after : Option Position → Event → Option Position
@@ -26,9 +28,11 @@ after (some p) (assumes l answer) = some (moved p l answer)
 after none (backs d) = none
 after (some p) (backs d) = some (withdrawn p d)
 after s (explains v answer) = s
+after s (unexplained v) = s
+after s (stuck l) = s
 after s (refused number) = s
 
--- When a refusal is given, and its number, is the table of document 01.
+-- 10 is given exactly if there is nothing to explain, and 12 never. When another refusal is given, and its number, is the table of document 01 and does not depend on what is open.
 abbrev pub Right : Option Position → Event → Type 0
 Right s (opens n rows answer) = AnswersOpen n rows answer
 Right none (assumes l answer) = ⊥
@@ -36,7 +40,10 @@ Right (some p) (assumes l answer) = Literal (p .n) l × AnswersAssume p l answer
 Right none (backs d) = ⊥
 Right (some p) (backs d) = d ≤ length (p .taken)
 Right none (explains v answer) = ⊥
-Right (some p) (explains v answer) = Var (p .n) v × (Unexplained p v → ⊥) × AnswersExplain p v answer
+Right (some p) (explains v answer) = Var (p .n) v × (Unexplained p v → ⊥) × Explanation p v answer
+Right none (unexplained v) = ⊥
+Right (some p) (unexplained v) = Var (p .n) v × Unexplained p v
+Right s (stuck l) = ⊥
 Right s (refused number) = Unit {0}
 
 abbrev pub Runs : Option Position → List Event → Type 0

@@ -4,6 +4,7 @@
 --   rowSum, Holds       the sum of a row's variables under an assignment; the row is satisfied
 --   Numbered, Rows      a row with its number; a system, in the order of its numbers, which may have gaps
 --   total ps            the sum of rows
+--   SameCoefs, SameRow  two rows have the same coefficients; and the same parity
 --   SumOf n ks c ps     the coefficients of c are the sum of those of ps, some of the rows ks
 --   Takes, Outcome      what taking the rows in order comes to
 --   Kept n rows ks      ks are the kept rows of a system in which no row fails

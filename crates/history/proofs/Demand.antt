@@ -1,7 +1,8 @@
--- DEMAND 3, from the promises alone: after any calls, each answer but a refusal is what the definitions give for what is open, and the state matches what is then open.
+-- DEMAND 3, from the promises alone: after any calls, each answer is what the definitions give for what is open, and the state matches what is then open.
 --   refused-or       a refusal, or none
 --   open-step ..     one call
 --   demand           any list of calls
+--   counted          the numbers of a header are counted by the definitions; demand-counted: after any calls
 -- Assumes nothing.
 use mathlib.Core.Path.{_≡_, refl, sym, ap, _∙_, subst}
 use mathlib.Core.Bool.{Bool, true, false, true≢false}
@@ -12,12 +13,16 @@ use lib.ListN.{length, take}
 use Prim.Native.Nat.{ℕ, zero, suc, _≤_}
 use native.Mathlib.Omega.{arith}
 use Rattle.gf2.specs.Rows.{Var}
-use Rattle.gf2.specs.Answers.{Literal, Position, AnswersOpen, AssumeAnswer, held, conflict, implied, AnswersAssume, moved, AnswersExplain}
+use Rattle.gf2.specs.Answers.{Literal, Position, AnswersOpen, AssumeAnswer, held, conflict, implied, AnswersAssume, moved, Explanation}
 use Rattle.gf2.specs.History.{assumes, refused, after, Right, Runs, at-end}
 use Rattle.gf2.proofs.Literals.{of-range}
+use Rattle.gf2.proofs.Unique.{kept-unique}
 use Rattle.format.specs.Refusals.{refusal}
 use Rattle.format.specs.Sheet.{nOf, sheetRows}
+use Rattle.format.proofs.Refusing.{never}
 use Rattle.linear.proofs.Joined.{codes-length}
+use Rattle.linear.proofs.Taking.{kept-length}
+use Rattle.linear.proofs.Explaining.{made-kept}
 use Rattle.judge.specs.declared.Header.{Header}
 use Rattle.judge.specs.Checks.{assumeChecks, explainChecks}
 use Rattle.judge.proofs.Judged.{back-judged, assume-judged, explain-judged}
@@ -27,8 +32,8 @@ use Rattle.parity.specs.declared.Assuming.{Assuming}
 use Rattle.parity.specs.declared.Assuming.the-variants.{AssumeRefused, Held, Conflict, Taken}
 use Rattle.parity.specs.declared.Explaining.{Explaining}
 use Rattle.parity.specs.declared.Explaining.the-variants.{ExplainRefused, Explained}
-use Rattle.parity.specs.Promises.{Stands, nothingOpen, OpenPromise, OpenDone, openChecks, AssumePromise, AssumeRight, BackPromise, ExplainPromise, ExplainRight}
-use Rattle.history.specs.Calls.{Called, opening, assuming, backing, explaining, openEvent, assumeEvent, backEvent, explainEvent, event, Calls, done, then, events, Matches}
+use Rattle.parity.specs.Promises.{Stands, nothingOpen, OpenPromise, OpenDone, openChecks, AssumePromise, AssumeRight, BackPromise, ExplainPromise, ExplainLeaves, ExplainRight}
+use Rattle.history.specs.Calls.{Called, opening, assuming, backing, explaining, openEvent, assumeEvent, backEvent, explainEvent, event, Calls, done, then, events, Matches, Counted}
 
 -- ---- what is needed of answers and checks
 pub refused-or : (r : ℕ) → ((c : ℕ) × (r ≡ suc c)) ⊎ (r ≡ 0)
@@ -91,7 +96,7 @@ assume-step s₀ h work code literals literals′ answer h′ work′ m p = go (
 
     go : ((c : ℕ) × (refusal (assumeChecks h (length work) (length literals) code) ≡ suc c)) ⊎ (refusal (assumeChecks h (length work) (length literals) code) ≡ 0) → (s : Option Position) → Matches h work s
         → Right s (assumeEvent code answer literals′) × Matches h′ work′ (after s (assumeEvent code answer literals′))
-    go (inl w) s m = let e = p .refused (w .0) (w .1) in rw (e .0) (tt, rw (e .1, e .2) m)
+    go (inl w) s m = let e = p .refused (w .0) (w .1) in rw (e .0, never 12 (assumeChecks h (length work) (length literals) code) refl (w .0) (w .1)) (tt, rw (e .1, e .2) m)
     go (inr z) none m = absurd (m (assume-judged h (length work) (length literals) code z .0 .is-open))
     go (inr z) (some q) m = right-step q m (literal-of h (length work) (length literals) code z) answer (p .right z q m)
 
@@ -114,16 +119,16 @@ explain-step : (s₀ : Option Position) (h : Header) (work : List ℕ) (v : ℕ)
     → Right s₀ (explainEvent v answer clause′ rows′) × Matches h work (after s₀ (explainEvent v answer clause′ rows′))
 explain-step s₀ h work v clause rows clause′ rows′ answer m p = go (refused-or (refusal (explainChecks h (length work) (length clause) (length rows) v))) s₀ m
   where
-    right-step : (q : Position) → Stands h work q → Var (h .n) v → (answer : Explaining) → ExplainRight q v answer clause′ rows′
+    right-step : (q : Position) → Stands h work q → Var (h .n) v → (answer : Explaining) → ExplainLeaves h answer clause rows clause′ rows′ → ExplainRight q v answer clause′ rows′
         → Right (some q) (explainEvent v answer clause′ rows′) × Matches h work (after (some q) (explainEvent v answer clause′ rows′))
-    right-step q st l (ExplainRefused c) r = (tt, st)
-    right-step q st l (Explained x y) r = ((rw (ap (λ (z : Position). z .n) (st .here)) l, r .0, subst (AnswersExplain q v) (sym (some-one _ (r .1 .0) (r .1 .1))) (r .1 .2 .answers)), st)
+    right-step q st l (ExplainRefused c) f r = rw (f .0) ((rw (ap (λ (z : Position). z .n) (st .here)) l, r), st)
+    right-step q st l (Explained x y) f r = ((rw (ap (λ (z : Position). z .n) (st .here)) l, r .0, subst (Explanation q v) (sym (some-one _ (r .1 .0) (r .1 .1))) (r .1 .2)), st)
 
     go : ((c : ℕ) × (refusal (explainChecks h (length work) (length clause) (length rows) v) ≡ suc c)) ⊎ (refusal (explainChecks h (length work) (length clause) (length rows) v) ≡ 0) → (s : Option Position) → Matches h work s
         → Right s (explainEvent v answer clause′ rows′) × Matches h work (after s (explainEvent v answer clause′ rows′))
-    go (inl w) s m = let e = p .refused (w .0) (w .1) in rw (e .0) (tt, m)
+    go (inl w) s m = let e = p .refused (w .0) (w .1) in rw (e .0, never 10 (explainChecks h (length work) (length clause) (length rows) v) refl (w .0) (w .1)) (tt, m)
     go (inr z) none m = absurd (m (explain-judged h (length work) (length clause) (length rows) v z .0 .is-open))
-    go (inr z) (some q) m = right-step q m (explain-judged h (length work) (length clause) (length rows) v z .4) answer (p .right z q m)
+    go (inr z) (some q) m = right-step q m (explain-judged h (length work) (length clause) (length rows) v z .4) answer (p .leaves z) (p .right z q m)
 
 -- ---- any calls
 called-step : (s : Option Position) {h h′ : Header} {work work′ : List ℕ} → Matches h work s → (c : Called h work h′ work′) → Right s (event c) × Matches h′ work′ (after s (event c))
@@ -139,3 +144,18 @@ demand s m (then c cs) =
     let e = called-step s m c in
     let f = demand (after s (event c)) (e .1) cs in
     ((e .0, f .0), f .1)
+
+-- ---- the numbers of a header
+pub counted : (h : Header) (work : List ℕ) (p : Position) → Stands h work p → Counted h p
+counted h work p st =
+    record {
+      variables = sym (ap (λ (z : Position). z .n) (st .here));
+      depth = sym (codes-length (h .depth) (st .var) (st .val)) ∙ sym (ap (λ (z : Position). length (z .taken)) (st .here));
+      kept = λ ks k.
+          let s = st .made in
+          let own = made-kept (h .n) (h .m) (st .Sheet) (st .kept) (h .depth) (st .var) (st .val) (h .kept) (s .R) (s .β) (s .S) (s .known) (s .truth) (s .made) (st .is-kept) in
+          s .made .built .count ∙ sym (kept-length (h .m) (st .Sheet) (st .kept)) ∙ ap length (kept-unique _ _ _ ks own (rw (st .here) at k));
+    }
+
+pub demand-counted : {h h′ : Header} {work work′ : List ℕ} → (h .«open» ≡ 1 → ⊥) → (cs : Calls h work h′ work′) (p : Position) → at-end none (events cs) ≡ some p → Counted h′ p
+demand-counted {h′ = h′} {work′ = work′} shut cs p e = counted h′ work′ p (subst (Matches h′ work′) e (demand none shut cs .1))

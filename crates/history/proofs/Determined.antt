@@ -2,10 +2,10 @@
 --   same-buffer          two answer buffers with the same used part are equal
 --   open-determined      for every input: answer, header, row store and answer buffers
 --   back-determined      for every input: number and header
---   assume-determined, explain-determined   on a state that the module made: answer, header and answer buffers
--- The words of the working buffer, and the answers on a foreign state, are not determined.
+--   assume-determined, explain-determined   for every input that the checks refuse, and on a state that the module made: answer, header and answer buffers
+-- The words of the working buffer are not determined, nor the answers on a foreign state where the checks refuse nothing.
 -- Assumes nothing.
-use mathlib.Core.Path.{_≡_, refl, sym, ap, ap₂, _∙_, subst}
+use mathlib.Core.Path.{_≡_, refl, sym, ap, ap₂, _∙_}
 use mathlib.Core.Bool.{Bool, true, false, true≢false}
 use mathlib.Core.Logic.{_⊎_, inl, inr}
 use mathlib.Core.List.{List, [], _++_}
@@ -14,11 +14,10 @@ use lib.Dec.{ltb}
 use Prim.Native.Nat.{ℕ, zero, suc, _+_, _≤_}
 use native.Mathlib.Omega.{arith}
 use borrow.Author.Tests.{ltb-false}
-use Rattle.gf2.specs.Rows.{Assignment}
-use Rattle.gf2.specs.Answers.{Position, start, Solves, opened, unsatisfiable, OpenAnswer, AnswersOpen, AssumeAnswer, held, conflict, implied, ExplainAnswer}
+use Rattle.gf2.specs.Answers.{Position, opened, unsatisfiable, OpenAnswer, AssumeAnswer, held, conflict, implied, ExplainAnswer, Reached}
 use Rattle.gf2.proofs.Unique.{open-unique, assume-unique}
 use Rattle.gf2.proofs.Explained.{explain-unique}
-use Rattle.gf2.proofs.Reach.{reached-solution, unsatisfiable-none}
+use Rattle.gf2.proofs.Reach.{reached-solution}
 use Rattle.format.specs.Refusals.{refusal}
 use Rattle.format.specs.Sheet.{nOf, mOf, sheetRows}
 use Rattle.format.proofs.Refusing.{accepted, none-either}
@@ -71,7 +70,7 @@ count-of (unsatisfiable zs) = 0
 count-of (opened k zs) = k
 
 module _ (old : Header) (s store work literals rows : List ℕ) where
-  abbrev OpenRefusal : ℕ
+  abbrev pub OpenRefusal : ℕ
   OpenRefusal = refusal (openChecks s (length store) (length work) (length literals) (length rows))
 
   room : OpenRefusal ≡ 0 → (nOf s ≤ length literals) × (mOf s ≤ length rows)
@@ -121,17 +120,6 @@ module _ (old : Header) (s store work literals rows : List ℕ) where
           record { header = a .1 ∙ sym (b .1); answer = a .0 ∙ sym (b .0); filled = a .2 ∙ sym (b .2); listed = a .4 ∙ sym (b .4); numbers = a .5 ∙ sym (b .5) }
       go (inr z) = both z x y (p .done z) (q .done z) (open-unique (nOf s) (sheetRows s) (p .done z .said) (q .done z .said) (p .done z .right) (q .done z .right))
 
-  -- DEMAND 2 for opening: unsatisfiable exactly if no assignment satisfies the constraints of the sheet
-  pub unsatisfiable-exactly : OpenRefusal ≡ 0 → (h : Header) (x : ℕ) (store₁ work₁ literals₁ rows₁ : List ℕ) → OpenPromise old s store work literals rows h (Unsatisfiable x) store₁ work₁ literals₁ rows₁
-      → (a : Assignment) → Solves (start (nOf s) (sheetRows s)) a → ⊥
-  unsatisfiable-exactly z h x store₁ work₁ literals₁ rows₁ p =
-      let d = p .done z in
-      unsatisfiable-none (nOf s) (sheetRows s) (take x rows₁) (subst (AnswersOpen (nOf s) (sheetRows s)) (sym (some-one _ (d .said) (d .says))) (d .right))
-
-  pub opened-exactly : OpenRefusal ≡ 0 → (h : Header) (x : ℕ) (store₁ work₁ literals₁ rows₁ : List ℕ) → OpenPromise old s store work literals rows h (Opened x) store₁ work₁ literals₁ rows₁
-      → (a : Assignment) × Solves (start (nOf s) (sheetRows s)) a
-  opened-exactly z h x store₁ work₁ literals₁ rows₁ p = reached-solution (start (nOf s) (sheetRows s)) (p .done z .leaves .4 .reached)
-
 -- ---- back
 pub back-determined : (old : Header) (work : List ℕ) (depth a b : ℕ) (h k : Header) (work₁ work₂ : List ℕ) → BackPromise old work depth a h work₁ → BackPromise old work depth b k work₂ → (a ≡ b) × (h ≡ k)
 back-determined old work depth a b h k work₁ work₂ p q = (same, go a b same p q)
@@ -160,38 +148,38 @@ implied-of conflict = []
 implied-of (implied xs) = xs
 
 module _ (old : Header) (work literals : List ℕ) (code : ℕ) where
-  abbrev AssumeRefusal : ℕ
+  abbrev pub AssumeRefusal : ℕ
   AssumeRefusal = refusal (assumeChecks old (length work) (length literals) code)
 
-  pub assume-determined : (p : Position) → Stands old work p → (h k : Header) (x y : Assuming) (work₁ work₂ literals₁ literals₂ : List ℕ)
+  pub assume-determined : (AssumeRefusal ≡ 0 → (p : Position) × Stands old work p) → (h k : Header) (x y : Assuming) (work₁ work₂ literals₁ literals₂ : List ℕ)
       → AssumePromise old work literals code h x work₁ literals₁ → AssumePromise old work literals code k y work₂ literals₂ → AssumeSame h k x y literals₁ literals₂
   unfolding tag implied-of
-  assume-determined p st h k x y work₁ work₂ literals₁ literals₂ a b = go (refused-or AssumeRefusal)
+  assume-determined made h k x y work₁ work₂ literals₁ literals₂ a b = go (refused-or AssumeRefusal)
     where
       fits : AssumeRefusal ≡ 0 → old .n ≤ length literals
       fits z = ltb-false (length literals) (old .n) (accepted (assumeChecks old (length work) (length literals) code) refl z .1 .1 .0)
 
-      both : AssumeRefusal ≡ 0 → (x y : Assuming) → AssumeLeaves old code h x work literals work₁ literals₁ → AssumeLeaves old code k y work literals work₂ literals₂
+      both : AssumeRefusal ≡ 0 → (p : Position) (x y : Assuming) → AssumeLeaves old code h x work literals work₁ literals₁ → AssumeLeaves old code k y work literals work₂ literals₂
           → (c : AssumeRight p code h x work₁ literals₁) (d : AssumeRight p code k y work₂ literals₂) → c .said ≡ d .said → AssumeSame h k x y literals₁ literals₂
-      both z (AssumeRefused e) y l m c d f = absurd (none-some _ (c .says))
-      both z Held (AssumeRefused e) l m c d f = absurd (none-some _ (d .says))
-      both z (Conflict v) (AssumeRefused e) l m c d f = absurd (none-some _ (d .says))
-      both z (Taken u) (AssumeRefused e) l m c d f = absurd (none-some _ (d .says))
-      both z Held Held l m c d f = record { header = l .0 ∙ sym (m .0); answer = refl; listed = l .2 ∙ sym (m .2) }
-      both z (Conflict v) (Conflict w) l m c d f = record { header = l .1 ∙ sym (m .1); answer = ap Conflict (l .0 ∙ sym (m .0)); listed = l .3 ∙ sym (m .3) }
-      both z (Taken u) (Taken w) l m c d f =
+      both z p (AssumeRefused e) y l m c d f = absurd (none-some _ (c .says))
+      both z p Held (AssumeRefused e) l m c d f = absurd (none-some _ (d .says))
+      both z p (Conflict v) (AssumeRefused e) l m c d f = absurd (none-some _ (d .says))
+      both z p (Taken u) (AssumeRefused e) l m c d f = absurd (none-some _ (d .says))
+      both z p Held Held l m c d f = record { header = l .0 ∙ sym (m .0); answer = refl; listed = l .2 ∙ sym (m .2) }
+      both z p (Conflict v) (Conflict w) l m c d f = record { header = l .1 ∙ sym (m .1); answer = ap Conflict (l .0 ∙ sym (m .0)); listed = l .3 ∙ sym (m .3) }
+      both z p (Taken u) (Taken w) l m c d f =
           let g : implied (take u literals₁) ≡ implied (take w literals₂) = some-one _ (c .said) (c .says) ∙ f ∙ sym (some-one _ (d .said) (d .says)) in
           let r = fits z in
           let lu = l .2 in
           let lw = m .2 in
           let s = same-buffer u w literals literals₁ literals₂ (l .4) (m .4) (omega arith) (omega arith) (ap implied-of g) in
           record { header = l .0 ∙ sym (m .0); answer = ap Taken (s .0); listed = s .1 }
-      both z Held (Conflict w) l m c d f = absurd (let g = ap tag (some-one held (c .said) (c .says) ∙ f ∙ sym (some-one conflict (d .said) (d .says))) in omega arith)
-      both z Held (Taken w) l m c d f = absurd (let g = ap tag (some-one held (c .said) (c .says) ∙ f ∙ sym (some-one (implied (take w literals₂)) (d .said) (d .says))) in omega arith)
-      both z (Conflict v) Held l m c d f = absurd (let g = ap tag (some-one conflict (c .said) (c .says) ∙ f ∙ sym (some-one held (d .said) (d .says))) in omega arith)
-      both z (Conflict v) (Taken w) l m c d f = absurd (let g = ap tag (some-one conflict (c .said) (c .says) ∙ f ∙ sym (some-one (implied (take w literals₂)) (d .said) (d .says))) in omega arith)
-      both z (Taken u) Held l m c d f = absurd (let g = ap tag (some-one (implied (take u literals₁)) (c .said) (c .says) ∙ f ∙ sym (some-one held (d .said) (d .says))) in omega arith)
-      both z (Taken u) (Conflict w) l m c d f = absurd (let g = ap tag (some-one (implied (take u literals₁)) (c .said) (c .says) ∙ f ∙ sym (some-one conflict (d .said) (d .says))) in omega arith)
+      both z p Held (Conflict w) l m c d f = absurd (let g = ap tag (some-one held (c .said) (c .says) ∙ f ∙ sym (some-one conflict (d .said) (d .says))) in omega arith)
+      both z p Held (Taken w) l m c d f = absurd (let g = ap tag (some-one held (c .said) (c .says) ∙ f ∙ sym (some-one (implied (take w literals₂)) (d .said) (d .says))) in omega arith)
+      both z p (Conflict v) Held l m c d f = absurd (let g = ap tag (some-one conflict (c .said) (c .says) ∙ f ∙ sym (some-one held (d .said) (d .says))) in omega arith)
+      both z p (Conflict v) (Taken w) l m c d f = absurd (let g = ap tag (some-one conflict (c .said) (c .says) ∙ f ∙ sym (some-one (implied (take w literals₂)) (d .said) (d .says))) in omega arith)
+      both z p (Taken u) Held l m c d f = absurd (let g = ap tag (some-one (implied (take u literals₁)) (c .said) (c .says) ∙ f ∙ sym (some-one held (d .said) (d .says))) in omega arith)
+      both z p (Taken u) (Conflict w) l m c d f = absurd (let g = ap tag (some-one (implied (take u literals₁)) (c .said) (c .says) ∙ f ∙ sym (some-one conflict (d .said) (d .says))) in omega arith)
 
       go : ((c : ℕ) × (AssumeRefusal ≡ suc c)) ⊎ (AssumeRefusal ≡ 0) → AssumeSame h k x y literals₁ literals₂
       go (inl w) =
@@ -199,9 +187,11 @@ module _ (old : Header) (work literals : List ℕ) (code : ℕ) where
           let f = b .refused (w .0) (w .1) in
           record { header = e .1 ∙ sym (f .1); answer = e .0 ∙ sym (f .0); listed = e .3 ∙ sym (f .3) }
       go (inr z) =
+          let p = made z .0 in
+          let st = made z .1 in
           let c = a .right z p st in
           let d = b .right z p st in
-          both z x y (a .leaves z) (b .leaves z) c d (assume-unique p (reached-solution p (st .reached)) code (c .said) (d .said) (c .right) (d .right))
+          both z p x y (a .leaves z) (b .leaves z) c d (assume-unique p (reached-solution p (st .reached)) code (c .said) (d .said) (c .right) (d .right))
 
 -- ---- explain
 pub record ExplainSame (x y : Explaining) (clause clause′ rows rows′ : List ℕ) : Type 0 where
@@ -210,25 +200,25 @@ pub record ExplainSame (x y : Explaining) (clause clause′ rows rows′ : List 
   pub numbers : rows ≡ rows′
 
 module _ (h : Header) (work clause rows : List ℕ) (v : ℕ) where
-  abbrev ExplainRefusal : ℕ
+  abbrev pub ExplainRefusal : ℕ
   ExplainRefusal = refusal (explainChecks h (length work) (length clause) (length rows) v)
 
-  pub explain-determined : (p : Position) → Stands h work p → (x y : Explaining) (clause₁ clause₂ rows₁ rows₂ : List ℕ)
+  pub explain-determined : (ExplainRefusal ≡ 0 → (p : Position) × Stands h work p) → (x y : Explaining) (clause₁ clause₂ rows₁ rows₂ : List ℕ)
       → ExplainPromise h work clause rows v x clause₁ rows₁ → ExplainPromise h work clause rows v y clause₂ rows₂ → ExplainSame x y clause₁ clause₂ rows₁ rows₂
-  explain-determined p st x y clause₁ clause₂ rows₁ rows₂ a b = go (refused-or ExplainRefusal)
+  explain-determined made x y clause₁ clause₂ rows₁ rows₂ a b = go (refused-or ExplainRefusal)
     where
       fits : ExplainRefusal ≡ 0 → (h .n ≤ length clause) × (h .m ≤ length rows)
       fits z =
           let f = none-either (ltb (length clause) (h .n)) (ltb (length rows) (h .m)) (accepted (explainChecks h (length work) (length clause) (length rows) v) refl z .1 .1 .0) in
           (ltb-false (length clause) (h .n) (f .0), ltb-false (length rows) (h .m) (f .1))
 
-      both : ExplainRefusal ≡ 0 → (x y : Explaining) → ExplainLeaves h x clause rows clause₁ rows₁ → ExplainLeaves h y clause rows clause₂ rows₂
+      both : ExplainRefusal ≡ 0 → (p : Position) → Reached p → (x y : Explaining) → ExplainLeaves h x clause rows clause₁ rows₁ → ExplainLeaves h y clause rows clause₂ rows₂
           → ExplainRight p v x clause₁ rows₁ → ExplainRight p v y clause₂ rows₂ → ExplainSame x y clause₁ clause₂ rows₁ rows₂
-      both z (ExplainRefused c) (ExplainRefused d) l m e f = record { answer = ap ExplainRefused (l .0 ∙ sym (m .0)); clauses = l .1 ∙ sym (m .1); numbers = l .2 ∙ sym (m .2) }
-      both z (ExplainRefused c) (Explained i j) l m e f = absurd (f .0 e)
-      both z (Explained i j) (ExplainRefused d) l m e f = absurd (e .0 f)
-      both z (Explained i j) (Explained s t) l m e f =
-          let u : e .1 .0 ≡ f .1 .0 = explain-unique p (st .reached) v (e .1 .0) (f .1 .0) (e .1 .2 .answers) (f .1 .2 .answers) in
+      both z p st (ExplainRefused c) (ExplainRefused d) l m e f = record { answer = ap ExplainRefused (l .0 ∙ sym (m .0)); clauses = l .1 ∙ sym (m .1); numbers = l .2 ∙ sym (m .2) }
+      both z p st (ExplainRefused c) (Explained i j) l m e f = absurd (f .0 e)
+      both z p st (Explained i j) (ExplainRefused d) l m e f = absurd (e .0 f)
+      both z p st (Explained i j) (Explained s t) l m e f =
+          let u : e .1 .0 ≡ f .1 .0 = explain-unique p st v (e .1 .0) (f .1 .0) (e .1 .2 .answers) (f .1 .2 .answers) in
           let g = some-one _ (e .1 .0) (e .1 .1) ∙ u ∙ sym (some-one _ (f .1 .0) (f .1 .1)) in
           let r = fits z in
           let r0 = r .0 in
@@ -246,4 +236,7 @@ module _ (h : Header) (work clause rows : List ℕ) (v : ℕ) where
           let e = a .refused (w .0) (w .1) in
           let f = b .refused (w .0) (w .1) in
           record { answer = e .0 ∙ sym (f .0); clauses = e .1 ∙ sym (f .1); numbers = e .2 ∙ sym (f .2) }
-      go (inr z) = both z x y (a .leaves z) (b .leaves z) (a .right z p st) (b .right z p st)
+      go (inr z) =
+          let p = made z .0 in
+          let st = made z .1 in
+          both z p (st .reached) x y (a .leaves z) (b .leaves z) (a .right z p st) (b .right z p st)

@@ -1,24 +1,26 @@
 -- CALLS ON ONE STATE, known by their promises alone, and the events of the definitions that they are.
 --   Called h work h′ work′   one call of open, assume, back or explain took the state (h, work) to (h′, work′), and its promise holds
 --   event                    the call with its answer, as demand 3 reads it
+--   Counted h p              the numbers of the header are those of the position: its variables, its taken literals, its kept rows
 --   Calls, events            any list of calls, one after another
 --   Matches h work s         the state is one that the module made for what is open; where nothing is, the header is not open
 -- Assumes nothing.
 use mathlib.Core.Path.{_≡_}
+use mathlib.Core.Bool.{cond}
 use mathlib.Core.Option.{Option, none, some}
 use mathlib.Core.List.{List, [], _∷_}
-use lib.ListN.{take}
+use lib.Dec.{eqb}
+use lib.ListN.{length}
 use Prim.Native.Nat.{ℕ, zero, suc}
-use Rattle.gf2.specs.Answers.{Position, opened, unsatisfiable, held, conflict, implied}
-use Rattle.gf2.specs.History.{Event, opens, assumes, backs, explains, refused}
+use Rattle.gf2.specs.Rows.{Rows, Kept}
+use Rattle.gf2.specs.Answers.{Position, OpenAnswer, AssumeAnswer, ExplainAnswer}
+use Rattle.gf2.specs.History.{Event, opens, assumes, backs, explains, unexplained, stuck, refused}
 use Rattle.format.specs.Sheet.{nOf, sheetRows}
 use Rattle.judge.specs.declared.Header.{Header}
 use Rattle.parity.specs.declared.Opening.{Opening}
-use Rattle.parity.specs.declared.Opening.the-variants.{OpenRefused, Unsatisfiable, Opened}
 use Rattle.parity.specs.declared.Assuming.{Assuming}
-use Rattle.parity.specs.declared.Assuming.the-variants.{AssumeRefused, Held, Conflict, Taken}
 use Rattle.parity.specs.declared.Explaining.{Explaining}
-use Rattle.parity.specs.declared.Explaining.the-variants.{ExplainRefused, Explained}
+use Rattle.parity.specs.Numbers.{openNumber, openSays, assumeNumber, assumeSays, explainNumber, explainSays}
 use Rattle.parity.specs.Promises.{Stands, OpenPromise, AssumePromise, BackPromise, ExplainPromise}
 
 pub data Called (h : Header) (work : List ℕ) : Header → List ℕ → Type 0 where
@@ -28,24 +30,31 @@ pub data Called (h : Header) (work : List ℕ) : Header → List ℕ → Type 0 
   backing : (depth number : ℕ) {h′ : Header} {work′ : List ℕ} → BackPromise h work depth number h′ work′ → Called h work h′ work′
   explaining : (v : ℕ) (clause rows clause′ rows′ : List ℕ) (answer : Explaining) → ExplainPromise h work clause rows v answer clause′ rows′ → Called h work h work
 
+-- the number of a refusal, or what the answer says
 abbrev pub openEvent : List ℕ → Opening → ℕ → List ℕ → List ℕ → Event
-openEvent s (OpenRefused c) kept literals rows = refused c
-openEvent s (Unsatisfiable x) kept literals rows = opens (nOf s) (sheetRows s) (unsatisfiable (take x rows))
-openEvent s (Opened x) kept literals rows = opens (nOf s) (sheetRows s) (opened kept (take x literals))
+openEvent s answer kept literals rows = go (openSays answer kept literals rows)
+  where
+    go : Option OpenAnswer → Event
+    go none = refused (openNumber answer)
+    go (some said) = opens (nOf s) (sheetRows s) said
 
 abbrev pub assumeEvent : ℕ → Assuming → List ℕ → Event
-assumeEvent code (AssumeRefused c) literals = refused c
-assumeEvent code Held literals = assumes code held
-assumeEvent code (Conflict v) literals = assumes code conflict
-assumeEvent code (Taken x) literals = assumes code (implied (take x literals))
+assumeEvent code answer literals = go (assumeSays answer literals)
+  where
+    go : Option AssumeAnswer → Event
+    go none = cond (eqb (assumeNumber answer) 12) (stuck code) (refused (assumeNumber answer))
+    go (some said) = assumes code said
 
 abbrev pub backEvent : ℕ → ℕ → Event
 backEvent depth zero = backs depth
 backEvent depth (suc c) = refused (suc c)
 
 abbrev pub explainEvent : ℕ → Explaining → List ℕ → List ℕ → Event
-explainEvent v (ExplainRefused c) clause rows = refused c
-explainEvent v (Explained x y) clause rows = explains v (record { clause = take x clause; numbers = take y rows })
+explainEvent v answer clause rows = go (explainSays answer clause rows)
+  where
+    go : Option ExplainAnswer → Event
+    go none = cond (eqb (explainNumber answer) 10) (unexplained v) (refused (explainNumber answer))
+    go (some said) = explains v said
 
 abbrev pub event : {h : Header} {work : List ℕ} {h′ : Header} {work′ : List ℕ} → Called h work h′ work′ → Event
 event {h′ = h′} (opening s store literals rows store′ literals′ rows′ answer promise) = openEvent s answer (h′ .kept) literals′ rows′
@@ -64,3 +73,8 @@ events (then c cs) = event c ∷ events cs
 abbrev pub Matches : Header → List ℕ → Option Position → Type 0
 Matches h work none = h .«open» ≡ 1 → ⊥
 Matches h work (some p) = Stands h work p
+
+pub record Counted (h : Header) (p : Position) : Type 0 where
+  pub variables : h .n ≡ p .n
+  pub depth : h .depth ≡ length (p .taken)
+  pub kept : (ks : Rows) → Kept (p .n) (p .rows) ks → h .kept ≡ length ks

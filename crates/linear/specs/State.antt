@@ -1,11 +1,12 @@
 -- THE INVARIANT OF THE MODULE, on rows, values and literals (where they lie in words is said in tableau).
 -- Rows of a sheet go by their place: row q has the number q + 1. A place that no row has reads as the row 0 ≡ 0.
 --   Earlier, Summed, Kept   which rows are kept, by their places; Fails: a row that contradicts
---   tally                   how many of the first places have a flag
+--   one-if, tally           1 for a flag; how many of the first places have one
 --   Built                   a tableau that says what the first q rows of the sheet say, with the provenance of its rows
 --   Taken                   the taken literals: of distinct variables, none basic
 --   Made                    the state between calls
 --   Started, Finished       values before settling: of the variables that are not basic, the taken ones have theirs; what settling then does
+--   with-at, with-bool      a function changed at one place
 -- Assumes nothing.
 use mathlib.Core.Path.{_≡_}
 use mathlib.Core.Logic.{_≢_}

@@ -1,7 +1,7 @@
 -- THE NUMBERS AND VALUES OF THE ANSWERS: for each case of an answer, this paper's number and what it says.
 --   openNumber, assumeNumber, explainNumber   0 done; a refusal its number of the table; 100 held, 101 conflict, 102 unsatisfiable
 --   openSays, assumeSays, explainSays         the answer of the definitions, with its list read from the buffers as they then are
--- A refusal says nothing of the state; what stands for it there is not read.
+-- A refusal says nothing of the state.
 -- Assumes nothing.
 use mathlib.Core.List.{List}
 use mathlib.Core.Option.{Option, none, some}

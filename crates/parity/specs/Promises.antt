@@ -1,9 +1,10 @@
 -- THE PROMISES of open, assume, back and explain: what each call says of its answer and of every buffer it was lent.
---   openChecks                   the checks of open, in order: the reader's, then its own; those of the other calls stand in judge
+--   openOwn, openChecks          the checks of open, in order: its own after the reader's; those of the other calls stand in judge
 --   Stands h work p              header and working buffer are a state that the module made for the position p
 --   nothingOpen, opensWith       the header of an unsatisfiable opening, and of one that is open
 --   Used x old new               x places of an answer buffer are used, and it keeps what it had past them
 --   Worked old new               the working buffer keeps its length, and what it had past its first 4,096 words
+--   OpenLeaves ..                what an answer leaves, on every state; OpenDone, AssumeRight, ExplainRight: which answer is right
 --   OpenPromise ..               a refusal changes nothing; any other answer is safe on every state, and right on a state that the module made
 -- Assumes nothing.
 use mathlib.Core.Path.{_≡_}

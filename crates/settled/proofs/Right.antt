@@ -17,7 +17,7 @@ use Rattle.gf2.specs.Field.{xsum}
 use Rattle.gf2.specs.Lists.{_∈_, All}
 use Rattle.gf2.specs.Rows.{Var, Assignment, Rows, rowSum, total, Kept}
 use Rattle.gf2.specs.Answers.{code, value, variable, Implied, Solves, start, Literal, Position, OpenAnswer, unsatisfiable, opened, AssumeAnswer, held, conflict, implied, ExplainAnswer, AnswersExplain, Unexplained}
-use Rattle.gf2.specs.History.{Event, opens, assumes, backs, explains, refused, after, Right, Runs}
+use Rattle.gf2.specs.History.{Event, opens, assumes, backs, explains, unexplained, stuck, refused, after, Right, Runs}
 use Rattle.format.specs.Bits.{odd, bitsN, bitsOf, valueOf}
 use Rattle.format.specs.Refusals.{refusal}
 use Rattle.format.specs.Sheet.{mOf, reader, rowsFrom, sheetRows}
@@ -29,6 +29,8 @@ use Rattle.gf2.proofs.Literals.{code-of}
 use Rattle.gf2.proofs.Decide.{Fits, Answered, run-takes, open-right, assume-right, explain-right}
 use Rattle.gf2.proofs.Sure.{explains-implied}
 use Rattle.gf2.proofs.Reach.{reached-solution}
+use Rattle.gf2.proofs.Explained.{explanation}
+use Rattle.gf2.proofs.Next.{Good, step}
 
 abbrev pub same-list : List ℕ → List ℕ → Bool
 same-list [] [] = true
@@ -114,6 +116,8 @@ meets none (backs d) = false
 meets (some p) (backs d) = leb d (length (p .taken))
 meets none (explains v answer) = false
 meets (some p) (explains v answer) = fits p && (in-range (p .n) v && (untaken v p && same-explain (explain-answer p v) (answer .clause) (answer .numbers)))
+meets s (unexplained v) = false
+meets s (stuck l) = false
 meets s (refused number) = true
 
 unfoldable runs : Option Position → List Event → Bool
@@ -135,40 +139,45 @@ valued p fit v m answer e neither =
     (rw (← e .of-v, code-of (e .literal))
     (explains-implied p fit (e .literal) (record { low = rw (e .of-v) (m .low); high = rw (e .of-v) (m .high) }) (e .rows) (e .cited) (e .explains)))
 
-meets-right : (s : Option Position) (e : Event) → meets s e ≡ true → Right s e
-meets-right s (opens n rows answer) h = rw (same-open-eq (open-answer n rows) answer h) at (open-right n rows)
-meets-right none (assumes l answer) h = absurd (false≢true h)
-meets-right (some p) (assumes l answer) h =
+meets-right : (s : Option Position) (e : Event) → Good s → meets s e ≡ true → Right s e
+meets-right s (opens n rows answer) g h = rw (same-open-eq (open-answer n rows) answer h) at (open-right n rows)
+meets-right none (assumes l answer) g h = absurd (false≢true h)
+meets-right (some p) (assumes l answer) g h =
     let a = and-both (fits p) (literal (p .n) l && same-assume (assume-answer p l) answer) h in
     let b = and-both (literal (p .n) l) (same-assume (assume-answer p l) answer) (a .1) in
     let m = literal-is (p .n) l (b .0) in
     (m, rw (same-assume-eq (assume-answer p l) answer (b .1)) at (assume-right p (fits-is p (a .0)) l m))
-meets-right none (backs d) h = absurd (false≢true h)
-meets-right (some p) (backs d) h = leb→le d (length (p .taken)) (rw h tt)
-meets-right none (explains v answer) h = absurd (false≢true h)
-meets-right (some p) (explains v answer) h =
+meets-right none (backs d) g h = absurd (false≢true h)
+meets-right (some p) (backs d) g h = leb→le d (length (p .taken)) (rw h tt)
+meets-right none (explains v answer) g h = absurd (false≢true h)
+meets-right (some p) (explains v answer) g h =
     let a = and-both (fits p) (in-range (p .n) v && (untaken v p && same-explain (explain-answer p v) (answer .clause) (answer .numbers))) h in
     let b = and-both (in-range (p .n) v) (untaken v p && same-explain (explain-answer p v) (answer .clause) (answer .numbers)) (a .1) in
     let c = and-both (untaken v p) (same-explain (explain-answer p v) (answer .clause) (answer .numbers)) (b .1) in
     let fit = fits-is p (a .0) in
     let m = in-range-is (p .n) v (b .0) in
     let e = explained p fit v answer (explain-answer p v) (explain-right p fit v) (c .1) in
-    (m, refusal p v (valued p fit v m answer e) (untaken-is v p (c .0)), e)
+    (m, refusal p v (valued p fit v m answer e) (untaken-is v p (c .0)), explanation p g v m answer e)
   where
     refusal : (p : Position) (v : ℕ) → (((b : Bool) → Implied p (code v b) → ⊥) → ⊥) → ((l : ℕ) × (l ∈ p .taken) × (variable l ≡ v) → ⊥) → Unexplained p v → ⊥
     refusal p v f g (inl h) = f h
     refusal p v f g (inr w) = g w
-meets-right s (refused number) h = tt
+meets-right s (unexplained v) g h = absurd (false≢true h)
+meets-right s (stuck l) g h = absurd (false≢true h)
+meets-right s (refused number) g h = tt
 
-runs-right : (s : Option Position) (es : List Event) → runs s es ≡ true → Runs s es
+runs-right : (s : Option Position) (es : List Event) → Good s → runs s es ≡ true → Runs s es
 unfolding runs
-runs-right s [] h = tt
-runs-right s (e ∷ es) h = let k = and-both (meets s e) (runs (after s e) es) h in (meets-right s e (k .0), runs-right (after s e) es (k .1))
+runs-right s [] g h = tt
+runs-right s (e ∷ es) g h =
+    let k = and-both (meets s e) (runs (after s e) es) h in
+    let r = meets-right s e g (k .0) in
+    (r, runs-right (after s e) es (step s e g r) (k .1))
 
 -- THE STATEMENT: every answer in the table is right where it is given
 pub settled : All (Runs none) table
 unfolding find-part all-pass agree run every solves implies listing-from rowSum total xsum runs odd bitsN bitsOf valueOf rowsFrom
-settled = all-pass-true (runs none) (Runs none) (runs-right none) table refl
+settled = all-pass-true (runs none) (Runs none) (λ es. runs-right none es tt) table refl
 
 -- with room for the rows, the reader refuses no sheet of the table
 pub all-accepted : All (λ s. refusal (reader s (9 * mOf s)) ≡ 0) accepted
