@@ -10,8 +10,8 @@ use native.Mathlib.Omega.{arith}
 use lib.ListN.{drop}
 use lib.Seq.{drop-drop}
 use Rattle.format.specs.Sheet.{rowOf, rowsFrom}
-use Rattle.gf2.proofs.Chosen.{placed}
 use Rattle.gf2.specs.Rows.{Row, Numbered, Rows}
+use Rattle.gf2.specs.Places.{placed}
 
 places : (n m number : ℕ) (bs : List Bool) → rowsFrom (suc number) n m bs ≡ placed m (λ i. suc (number + i)) (λ q. rowOf n (drop (q * (n + 1)) bs))
 unfolding rowsFrom placed

@@ -13,11 +13,12 @@ use Rattle.gf2.specs.Lists.{_∈_, All, Part}
 use Rattle.gf2.specs.Rows.{Var, Row, Rows, total}
 use Rattle.gf2.specs.Rows as by-list
 use Rattle.gf2.specs.Answers.{code, variable, value, Literal, literals, Explains, AnswersExplain, Unexplained}
+use Rattle.gf2.specs.Places.{chosen, scanned}
 use Rattle.gf2.proofs.Lists.{all-at}
 use Rattle.gf2.proofs.Literals.{code-variable, code-value}
 use Rattle.gf2.proofs.Decide.{Fits, all-append}
-use Rattle.gf2.proofs.Chosen.{chosen, chosen-part, chosen-total}
-use Rattle.gf2.proofs.Scans.{scanned, scanned-same}
+use Rattle.gf2.proofs.Chosen.{chosen-part, chosen-total}
+use Rattle.gf2.proofs.Scans.{scanned-same}
 use Rattle.gf2.proofs.RowExplains.{cite, Distinct, row-explains}
 use Rattle.gf2.proofs.Values.{negations-listed}
 use Rattle.gf2.proofs.Sure.{explains-implied}

@@ -11,10 +11,10 @@ use native.Mathlib.Omega.{arith}
 use Rattle.gf2.specs.Field.{_⊕_, xsum, same}
 use Rattle.gf2.specs.Lists.{All, Part, stop, take, skip}
 use Rattle.gf2.specs.Rows.{Row, Assignment, Rows, rowSum, total, SameCoefs}
+use Rattle.gf2.specs.Places.{chosen, placed, with-row}
 use Rattle.gf2.proofs.Sums.{sum-cong, sum-false, same-dec, same-refl, same-ne, bool-dec}
 use Rattle.gf2.proofs.Sat.{row-cong}
 use Rattle.gf2.proofs.Fredholm.{split-or-sum}
-use Rattle.gf2.proofs.Chosen.{chosen, placed, with-row}
 use Rattle.linear.specs.Systems.{combine}
 use Rattle.linear.specs.State.{Summed, Kept}
 use Rattle.linear.proofs.Combine.{sum-of-combine}

@@ -16,9 +16,10 @@ use native.Mathlib.Nat.{not-suc-le-zero}
 use native.Mathlib.Omega.{arith}
 use Rattle.gf2.specs.Field.{_⊕_, xsum}
 use Rattle.gf2.specs.Rows.{Row, Numbered, Rows, total, SumOf, passed, failed, Takes, end, keep, leave, fail}
+use Rattle.gf2.specs.Places.{with-row, chosen, placed}
 use Rattle.gf2.proofs.Sums.{sum-cong, sum-false, bool-dec}
 use Rattle.gf2.proofs.Search.{and-both, test-true}
-use Rattle.gf2.proofs.Chosen.{with-row, chosen, placed, chosen-part, chosen-total}
+use Rattle.gf2.proofs.Chosen.{chosen-part, chosen-total}
 use Rattle.gf2.proofs.Scans.{chosen-end}
 use Rattle.gf2.proofs.Values.{takes-append}
 use Rattle.linear.specs.Systems.{combine}

@@ -10,7 +10,7 @@ use mathlib.Core.List.{List, [], _∷_, _++_}
 use Prim.Native.Nat.{ℕ, zero, suc}
 use Rattle.gf2.specs.Rows.{Row, Rows}
 use Rattle.gf2.specs.Answers.{code, Position}
-use Rattle.gf2.proofs.Chosen.{chosen, placed}
+use Rattle.gf2.specs.Places.{chosen, placed}
 
 abbrev pub numbered : ℕ → (ℕ → Row) → Rows
 numbered m Sheet = placed m suc Sheet

@@ -17,8 +17,8 @@ use lib.Bits.{bitAnd, bitXor}
 use lib.ListN.{length, getD, length-append}
 use Rattle.gf2.specs.Field.{_⊕_, same}
 use Rattle.gf2.specs.Answers.{code}
+use Rattle.gf2.specs.Places.{scanned}
 use Rattle.gf2.proofs.Sums.{same-refl}
-use Rattle.gf2.proofs.Scans.{scanned}
 use Rattle.words.specs.Words.{digit, bitOf, bitAt}
 use Rattle.words.proofs.Bits.{bit-xor, bit-in, bit-front}
 use Rattle.tableau.specs.Layout.{rowAt, fromAt, knownAt, truthAt}

@@ -19,8 +19,8 @@ use lib.Count.{leadingZeros}
 use lib.ListN.{length, set, length-append}
 use lib.Pow.{shr-shr, split}
 use Rattle.gf2.specs.Field.{_⊕_, same}
+use Rattle.gf2.specs.Places.{listed-if}
 use Rattle.gf2.proofs.Sums.{same-dec, same-refl, same-ne}
-use Rattle.gf2.proofs.Scans.{one-if}
 use Rattle.words.specs.Words.{digit, bitOf}
 use Rattle.words.proofs.Bits.{bit-xor, bit-and, pow-bit}
 use Rattle.words.proofs.Ones.{high-digit, low-digit, one-digit, zeros-lt, Left, left-start, left-end, left-seen, left-top, left-skip, left-next}
@@ -119,7 +119,7 @@ module _ (x t s base at : ℕ) (out o : List ℕ) (rest c : ℕ) (h : Rest x t s
   more =
       let e : base + top + 1 ≡ base + 64 - (63 - top) = omega (arith, top-lt) in
       items-grows x t s base .more top
-      ∙ ap₂ (λ (l : List ℕ) (b : Bool). l ++ one-if b (s * (base + top + 1) + t / 2 ^ (63 - top) % 2)) between (left-top x (h .seen) rest (h .ones) pos)
+      ∙ ap₂ (λ (l : List ℕ) (b : Bool). l ++ listed-if b (s * (base + top + 1) + t / 2 ^ (63 - top) % 2)) between (left-top x (h .seen) rest (h .ones) pos)
       ∙ ap (λ (y : ℕ). items (h .seen) x t s base ++ (s * y + t / 2 ^ (63 - top) % 2) ∷ []) e
 
   more-room : at + length (items (h .seen) x t s base ++ item ∷ []) ≤ length out

@@ -21,7 +21,8 @@ use native.Mathlib.Omega.{arith}
 use lib.ListN.{length, getD, set, take, replicate, length-set, length-append, length-take, List·getD-append}
 use lib.Seq.{getD-set-same, getD-set-other, getD-append-add, getD-take, ext-getD}
 use Rattle.gf2.specs.Answers.{code}
-use Rattle.gf2.proofs.Scans.{scanned-same, one-if, scanned}
+use Rattle.gf2.specs.Places.{listed-if, scanned}
+use Rattle.gf2.proofs.Scans.{scanned-same}
 use Rattle.words.specs.Words.{bitOf, bitAt}
 use Rattle.words.proofs.Bits.{zero-bits}
 use Rattle.tableau.specs.Layout.{knownAt}
@@ -31,7 +32,7 @@ use Rattle.lists.specs.Listing.{numbers, isNew, Listed}
 -- ---- the list of a scan
 pub record Grows (l : ℕ → List ℕ) (p : ℕ → Bool) (g : ℕ → ℕ) : Type 0 where
   pub none : l 0 ≡ []
-  pub more : (i : ℕ) → l (suc i) ≡ l i ++ one-if (p i) (g i)
+  pub more : (i : ℕ) → l (suc i) ≡ l i ++ listed-if (p i) (g i)
 
 pub scanned-grows : (t f : ℕ → Bool) → Grows (λ k. scanned k t f) (λ i. t (suc i)) (λ i. code (suc i) (f (suc i)))
 unfolding scanned
@@ -41,11 +42,11 @@ pub numbers-grows : (t : ℕ → Bool) → Grows (λ k. numbers k t) t suc
 unfolding numbers
 numbers-grows t = record { none = refl; more = λ i. refl }
 
-one-few : (b : Bool) (x : ℕ) → length (one-if b x) ≤ 1
+one-few : (b : Bool) (x : ℕ) → length (listed-if b x) ≤ 1
 one-few true x = omega arith
 one-few false x = omega arith
 
-one-same : (b : Bool) (x y : ℕ) → (b ≡ true → x ≡ y) → one-if b x ≡ one-if b y
+one-same : (b : Bool) (x y : ℕ) → (b ≡ true → x ≡ y) → listed-if b x ≡ listed-if b y
 one-same true x y h = ap (λ (z : ℕ). z ∷ []) (h refl)
 one-same false x y h = refl
 
@@ -53,7 +54,7 @@ between : (u k : ℕ) → u ≤ k → u + (k - u) ≡ k
 between u k b = omega arith
 
 module _ {l : ℕ → List ℕ} {p : ℕ → Bool} {g : ℕ → ℕ} (h : Grows l p g) where
-  next : (u d : ℕ) → l (u + suc d) ≡ l (u + d) ++ one-if (p (u + d)) (g (u + d))
+  next : (u d : ℕ) → l (u + suc d) ≡ l (u + d) ++ listed-if (p (u + d)) (g (u + d))
   next u d = let e : u + suc d ≡ suc (u + d) = omega arith in ap l e ∙ h .more (u + d)
 
   pub passed : (u k : ℕ) → u ≤ k → ((i : ℕ) → u ≤ i → i < k → p i ≡ false) → l k ≡ l u
@@ -62,14 +63,14 @@ module _ {l : ℕ → List ℕ} {p : ℕ → Bool} {g : ℕ → ℕ} (h : Grows 
       go : (d : ℕ) → u + d ≤ k → l (u + d) ≡ l u
       go zero m = ap l (add-zero u)
       go (suc d) m =
-          next u d ∙ ap (λ (z : Bool). l (u + d) ++ one-if z (g (u + d))) (q (u + d) (omega arith) (omega arith))
+          next u d ∙ ap (λ (z : Bool). l (u + d) ++ listed-if z (g (u + d))) (q (u + d) (omega arith) (omega arith))
           ∙ append-nil (l (u + d)) ∙ go d (omega arith)
 
   -- by one item a place at most
   grown-by : (u d : ℕ) → (length (l u) ≤ length (l (u + d))) × (length (l (u + d)) ≤ length (l u) + d)
   grown-by u zero = let e = ap (λ (k : ℕ). length (l k)) (add-zero u) in (omega arith, omega arith)
   grown-by u (suc d) =
-      let e = ap length (next u d) ∙ length-append (l (u + d)) (one-if (p (u + d)) (g (u + d))) in
+      let e = ap length (next u d) ∙ length-append (l (u + d)) (listed-if (p (u + d)) (g (u + d))) in
       let f = grown-by u d in
       (omega (arith, f .0), omega (arith, f .1, one-few (p (u + d)) (g (u + d))))
 
@@ -81,7 +82,7 @@ module _ {l : ℕ → List ℕ} {p : ℕ → Bool} {g : ℕ → ℕ} (h : Grows 
 
   pub gap : (v n : ℕ) → v < n → p v ≡ false → length (l n) < n
   gap v n m q =
-      let e : length (l (suc v)) ≡ length (l v) = ap length (h .more v ∙ ap (λ (b : Bool). l v ++ one-if b (g v)) q ∙ append-nil (l v)) in
+      let e : length (l (suc v)) ≡ length (l v) = ap length (h .more v ∙ ap (λ (b : Bool). l v ++ listed-if b (g v)) q ∙ append-nil (l v)) in
       omega (arith, grown (suc v) n m .1, few v)
 
   pub joined : {m : ℕ → List ℕ} {q : ℕ → Bool} {k : ℕ → ℕ} → Grows m q k → (base d : ℕ)
@@ -90,8 +91,8 @@ module _ {l : ℕ → List ℕ} {p : ℕ → Bool} {g : ℕ → ℕ} (h : Grows 
   joined {m} {q} {k} o base (suc d) a b =
       next base d
       ∙ ap₂ (λ (x y : List ℕ). x ++ y) (joined o base d (λ i z. a i (omega arith)) (λ i z. b i (omega arith)))
-      (ap (λ (x : Bool). one-if x (g (base + d))) (a d (omega arith)) ∙ one-same (q d) (g (base + d)) (k d) (b d (omega arith)))
-      ∙ append-assoc (l base) (m d) (one-if (q d) (k d))
+      (ap (λ (x : Bool). listed-if x (g (base + d))) (a d (omega arith)) ∙ one-same (q d) (g (base + d)) (k d) (b d (omega arith)))
+      ∙ append-assoc (l base) (m d) (listed-if (q d) (k d))
       ∙ ap (λ (x : List ℕ). l base ++ x) (sym (o .more d))
 
 -- ---- lists in the buffer

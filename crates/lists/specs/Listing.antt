@@ -14,14 +14,14 @@ use mathlib.Core.Bool.{Bool, false, _&&_, not}
 use Prim.Native.Nat.{ℕ, zero, suc, _+_, _*_, _-_, _/_, _%_, _^_, _<_, _≤_}
 use lib.ListN.{length, getD}
 use Rattle.gf2.specs.Field.{same}
-use Rattle.gf2.proofs.Scans.{one-if}
+use Rattle.gf2.specs.Places.{listed-if}
 use Rattle.words.specs.Words.{bitOf}
 use Rattle.tableau.specs.Layout.{rowAt, knownAt}
 use Rattle.tableau.specs.View.{vals}
 
 unfoldable pub numbers : ℕ → (ℕ → Bool) → List ℕ
 numbers zero t = []
-numbers (suc m) t = numbers m t ++ one-if (t m) (suc m)
+numbers (suc m) t = numbers m t ++ listed-if (t m) (suc m)
 
 abbrev pub isNew : List ℕ → List ℕ → ℕ → ℕ → Bool
 isNew work old v u = vals work knownAt u && not (vals old 0 u) && not (same u v)
@@ -38,7 +38,7 @@ pub record But (x base v r : ℕ) : Type 0 where
 
 unfoldable pub items : ℕ → ℕ → ℕ → ℕ → ℕ → List ℕ
 items zero x t s base = []
-items (suc k) x t s base = items k x t s base ++ one-if (bitOf x (63 - k)) (s * (base + k + 1) + t / 2 ^ (63 - k) % 2)
+items (suc k) x t s base = items k x t s base ++ listed-if (bitOf x (63 - k)) (s * (base + k + 1) + t / 2 ^ (63 - k) % 2)
 
 pub record Listed (most at : ℕ) (l out o : List ℕ) (x : ℕ) : Type 0 where
   pub count : x ≡ at + length l

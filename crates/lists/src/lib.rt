@@ -10,7 +10,7 @@ ghost use mathlib.Core.List.{_∷_};
 ghost use Prim.Native.Nat.{_+_, _-_, _<_, _≤_};
 ghost use lib.ListN.{length};
 ghost use Rattle.gf2.specs.Answers.{code};
-ghost use Rattle.gf2.proofs.Scans.{scanned};
+ghost use Rattle.gf2.specs.Places.{scanned};
 ghost use Rattle.words.specs.Words.{bitAt};
 ghost use Rattle.tableau.specs.Layout.{maxVars, maxRows, fromAt, knownAt, truthAt, size};
 ghost use Rattle.tableau.specs.View.{vals};

@@ -13,9 +13,9 @@ use native.Mathlib.Omega.{arith}
 use Rattle.gf2.specs.Field.{same}
 use Rattle.gf2.specs.Rows.{Var}
 use Rattle.gf2.specs.Answers.{variable, value, Position, held, conflict, implied, AnswersAssume}
+use Rattle.gf2.specs.Places.{scanned}
 use Rattle.gf2.proofs.Sums.{same-comm}
 use Rattle.gf2.proofs.Literals.{of-range}
-use Rattle.gf2.proofs.Scans.{scanned}
 use Rattle.linear.specs.State.{with-at, with-bool}
 use Rattle.format.specs.Refusals.{refusal}
 use Rattle.judge.specs.declared.Header.{Header}

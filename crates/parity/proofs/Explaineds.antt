@@ -13,8 +13,9 @@ use native.Mathlib.Omega.{arith}
 use Rattle.gf2.specs.Field.{same}
 use Rattle.gf2.specs.Rows.{Var}
 use Rattle.gf2.specs.Answers.{code, Position, ExplainAnswer, AnswersExplain, Unexplained}
+use Rattle.gf2.specs.Places.{scanned}
 use Rattle.gf2.proofs.Sums.{same-comm}
-use Rattle.gf2.proofs.Scans.{scanned, scanned-same}
+use Rattle.gf2.proofs.Scans.{scanned-same}
 use Rattle.gf2.proofs.Explained.{explanation}
 use Rattle.linear.specs.Positions.{position}
 use Rattle.linear.proofs.Explaining.{cited-rows, made-no-value, made-assumed, made-explains, made-explained}

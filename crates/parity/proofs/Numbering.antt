@@ -10,9 +10,9 @@ use Prim.Native.Nat.{ℕ, zero, suc, _<_, _≤_}
 use native.Mathlib.Omega.{arith}
 use Rattle.gf2.specs.Field.{_⊕_, same}
 use Rattle.gf2.specs.Rows.{Row, Numbered, Rows}
+use Rattle.gf2.specs.Places.{with-row, chosen, listed-if}
 use Rattle.gf2.proofs.Sums.{same-refl, same-ne, same-dec, bool-dec}
-use Rattle.gf2.proofs.Chosen.{with-row, chosen}
-use Rattle.gf2.proofs.Scans.{one-if, chosen-end}
+use Rattle.gf2.proofs.Scans.{chosen-end}
 use Rattle.linear.specs.State.{Earlier}
 use Rattle.linear.specs.Positions.{numbered, byNumber}
 use Rattle.linear.proofs.Taking.{numbered-end, no-rows, chosen-none}
@@ -30,9 +30,9 @@ unfolding numbers
 numbers-chosen zero t s Sheet h = rw (no-rows Sheet, chosen-none (byNumber s))
 numbers-chosen (suc m) t s Sheet h =
     rw (numbered-end m Sheet, chosen-end (byNumber s) (numbered m Sheet) (record { number = suc m; row = Sheet m }), map-append (chosen (byNumber s) (numbered m Sheet)) (with-row (s m) (record { number = suc m; row = Sheet m }) []))
-    (ap₂ _++_ (numbers-chosen m t s Sheet (λ j l. h j (omega arith))) (ap (λ (b : Bool). one-if b (suc m)) (h m (omega arith)) ∙ one (s m)))
+    (ap₂ _++_ (numbers-chosen m t s Sheet (λ j l. h j (omega arith))) (ap (λ (b : Bool). listed-if b (suc m)) (h m (omega arith)) ∙ one (s m)))
   where
-    one : (b : Bool) → one-if b (suc m) ≡ map number-of (with-row b (record { number = suc m; row = Sheet m }) [])
+    one : (b : Bool) → listed-if b (suc m) ≡ map number-of (with-row b (record { number = suc m; row = Sheet m }) [])
     one true = refl
     one false = refl
 
@@ -42,7 +42,7 @@ unfolding numbers
 numbers-cut q zero t l h = let e : 0 ≡ q = omega arith in ap (λ (z : ℕ). numbers z t) e
 numbers-cut q (suc m) t l h = go (same-dec q (suc m)) (numbers-cut q m t)
   where
-    go : (q ≡ suc m) ⊎ (q ≢ suc m) → (q ≤ m → ((j : ℕ) → q ≤ j → j < m → t j ≡ false) → numbers m t ≡ numbers q t) → numbers m t ++ one-if (t m) (suc m) ≡ numbers q t
+    go : (q ≡ suc m) ⊎ (q ≢ suc m) → (q ≤ m → ((j : ℕ) → q ≤ j → j < m → t j ≡ false) → numbers m t ≡ numbers q t) → numbers m t ++ listed-if (t m) (suc m) ≡ numbers q t
     go (inl e) f = ap (λ (z : ℕ). numbers z t) (sym e)
     go (inr e) f = rw (h m (omega arith) (omega arith)) (append-nil (numbers m t) ∙ f (omega arith) (λ j a b. h j a (omega arith)))
 
@@ -51,7 +51,7 @@ pub numbers-failed : (q m : ℕ) (t s : ℕ → Bool) (kept : ℕ → Bool) (She
 unfolding numbers
 numbers-failed q m t s kept Sheet l early h =
     numbers-cut (suc q) m t l past
-    ∙ ap₂ _++_ (numbers-chosen q t s Sheet below) (ap (λ (b : Bool). one-if b (suc q)) here)
+    ∙ ap₂ _++_ (numbers-chosen q t s Sheet below) (ap (λ (b : Bool). listed-if b (suc q)) here)
     ∙ sym (map-append (chosen (byNumber s) (numbered q Sheet)) (record { number = suc q; row = Sheet q } ∷ []))
   where
     none : (j : ℕ) → q ≤ j → s j ≡ false

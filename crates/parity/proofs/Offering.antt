@@ -15,9 +15,10 @@ use native.Mathlib.Numerals.{add-one}
 use Rattle.gf2.specs.Field.{same}
 use Rattle.gf2.specs.Rows.{Var, Assignment}
 use Rattle.gf2.specs.Answers.{code, variable, value, Literal, Position, assumed, Solves, held, conflict, implied, AnswersAssume}
+use Rattle.gf2.specs.Places.{scanned}
 use Rattle.gf2.proofs.Sums.{same-refl, same-ne}
 use Rattle.gf2.proofs.Literals.{code-of, of-range}
-use Rattle.gf2.proofs.Scans.{scanned, scanned-same}
+use Rattle.gf2.proofs.Scans.{scanned-same}
 use Rattle.gf2.proofs.Values.{Values, free, answers-held, answers-conflict, new-listed}
 use Rattle.gf2.proofs.Reach.{assumed-reached}
 use Rattle.linear.specs.State.{with-at, with-bool}

@@ -15,11 +15,11 @@ use borrow.Author.Tests.{ltb-false}
 use Rattle.gf2.specs.Rows.{Var, Row, Rows, Assignment}
 use Rattle.gf2.specs.Rows as by-list
 use Rattle.gf2.specs.Answers.{start, Solves, opened, unsatisfiable, AnswersOpen}
-use Rattle.gf2.proofs.Scans.{scanned, scanned-same}
+use Rattle.gf2.proofs.Scans.{scanned-same}
 use Rattle.gf2.proofs.Values.{Values, known-listed}
 use Rattle.gf2.proofs.Reach.{opened-reached}
 use Rattle.gf2.specs.Field.{_⊕_, same}
-use Rattle.gf2.proofs.Chosen.{chosen}
+use Rattle.gf2.specs.Places.{scanned, chosen}
 use Rattle.linear.specs.State.{Kept, Fails}
 use Rattle.linear.specs.Positions.{numbered, byNumber, keptRows, codesOf, position}
 use Rattle.linear.proofs.Keeping.{keepTo, kept-exists}

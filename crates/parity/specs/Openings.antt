@@ -6,7 +6,7 @@ use mathlib.Core.Path.{_≡_}
 use mathlib.Core.List.{List, _++_}
 use lib.ListN.{length, take, drop}
 use Prim.Native.Nat.{ℕ}
-use Rattle.gf2.proofs.Scans.{scanned}
+use Rattle.gf2.specs.Places.{scanned}
 use Rattle.format.specs.Refusals.{refusal}
 use Rattle.format.specs.Sheet.{nOf, mOf}
 use Rattle.judge.specs.declared.Header.{Header}
