@@ -23,7 +23,7 @@ use Rattle.gf2.proofs.RowExplains.{cite, Distinct, row-explains}
 use Rattle.gf2.proofs.Values.{negations-listed}
 use Rattle.gf2.proofs.Sure.{explains-implied}
 use Rattle.linear.specs.Systems.{combine, NonBasic, Literals}
-use Rattle.linear.specs.State.{Kept, Made}
+use Rattle.linear.specs.State.{KeptPlaces, Made}
 use Rattle.linear.specs.Positions.{numbered, byNumber, keptRows, codesOf, position}
 use Rattle.linear.proofs.Insert.{reason}
 use Rattle.linear.proofs.Opening.{no-failure}
@@ -42,7 +42,7 @@ codes-distinct (suc d) x y h =
     (all-codes _ d x y .1 (λ j l e. let f = h j d (omega arith) (omega arith) (sym (code-variable (x j) (y j)) ∙ e ∙ code-variable (x d) (y d)) in absurd (omega arith)))
 
 module _ (n m : ℕ) (Sheet : ℕ → Row) (kept : ℕ → Bool) (d : ℕ) (x : ℕ → ℕ) (y : ℕ → Bool) (k : ℕ) (R : ℕ → Row) (β : ℕ → ℕ) (S : ℕ → ℕ → Bool) (known truth : ℕ → Bool)
-    (w : Made n m Sheet kept d x y k R β S known truth) (kp : Kept n m Sheet kept) where
+    (w : Made n m Sheet kept d x y k R β S known truth) (kp : KeptPlaces n m Sheet kept) where
   pub made-kept : by-list.Kept n (numbered m Sheet) (keptRows m Sheet kept)
   made-kept = takes-kept n m Sheet kept kp m (omega arith) (no-failure n m Sheet kept m k R β S (w .built))
 

@@ -16,7 +16,7 @@ use Rattle.gf2.proofs.Sums.{sum-cong, sum-false, same-dec, same-refl, same-ne, 
 use Rattle.gf2.proofs.Sat.{row-cong}
 use Rattle.gf2.proofs.Fredholm.{split-or-sum}
 use Rattle.linear.specs.Systems.{combine}
-use Rattle.linear.specs.State.{Summed, Kept}
+use Rattle.linear.specs.State.{Summed, KeptPlaces}
 use Rattle.linear.proofs.Combine.{sum-of-combine}
 
 abbrev Within : (ℕ → Bool) → (ℕ → Bool) → Type 0
@@ -129,7 +129,7 @@ module _ (n m : ℕ) (Sheet : ℕ → Row) where
       go : ((d : ℕ) × (m ≡ d + q)) → keepTo m j ≡ keepTo q j
       go w = ap (λ (z : ℕ). keepTo z j) (w .1) ∙ keep-stays (w .0) q j l
 
-  pub kept-exists : Kept n m Sheet (keepTo m)
+  pub kept-exists : KeptPlaces n m Sheet (keepTo m)
   unfolding flag
   kept-exists = record { left = λ q l e. left q l (sym (at q l) ∙ e) (decide (keepTo q) (Sheet q)) refl; chosen = λ q l e. chosen q l (sym (at q l) ∙ e) (decide (keepTo q) (Sheet q)) refl }
     where
@@ -147,7 +147,7 @@ module _ (n m : ℕ) (Sheet : ℕ → Row) where
       chosen q l e (inr w) z = λ s h. w s (λ j g. sym (keep-final q j (omega arith) (h .0 j g .0)) ∙ h .0 j g .1, h .1)
 
 -- ---- there is one choice only
-module _ (n m : ℕ) (Sheet : ℕ → Row) (f g : ℕ → Bool) (kf : Kept n m Sheet f) (kg : Kept n m Sheet g) where
+module _ (n m : ℕ) (Sheet : ℕ → Row) (f g : ℕ → Bool) (kf : KeptPlaces n m Sheet f) (kg : KeptPlaces n m Sheet g) where
   kept-below : (b : ℕ) → b ≤ m → (q : ℕ) → q < b → f q ≡ g q
   kept-below zero l q h = absurd (not-suc-le-zero h)
   kept-below (suc b) l q h = go (same-dec q b) (kept-below b (omega arith))

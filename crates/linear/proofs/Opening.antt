@@ -12,7 +12,7 @@ use Prim.Native.Nat.{ℕ, zero, suc, _+_, _<_, _≤_, zero-le}
 use native.Mathlib.Nat.{not-suc-le-zero}
 use native.Mathlib.Omega.{arith}
 use Rattle.gf2.specs.Field.{_⊕_, xsum, same}
-use Rattle.linear.specs.State.{Earlier, Summed, Kept, tally, Built, Taken, Fails}
+use Rattle.linear.specs.State.{Earlier, Summed, KeptPlaces, tally, Built, Taken, Fails}
 use Rattle.gf2.specs.Rows.{Var, Row, Assignment, Holds, SameRow, SameCoefs}
 use Rattle.linear.specs.Systems.{combine, Spanned, Tableau, Provenance, pivot, repoint, reduce, extend}
 use Rattle.gf2.proofs.Field.{field, xor-false, xor-eq, eq-xor, xor-assoc}
@@ -109,7 +109,7 @@ built-none n m Sheet kept R β S =
     }
 
 -- ---- row q, reduced by the rows so far: what is left, and where it comes from
-module _ (n m : ℕ) (Sheet : ℕ → Row) (kept : ℕ → Bool) (kp : Kept n m Sheet kept) (q : ℕ) (lq : q < m) (k : ℕ) (R : ℕ → Row) (β : ℕ → ℕ) (S : ℕ → ℕ → Bool)
+module _ (n m : ℕ) (Sheet : ℕ → Row) (kept : ℕ → Bool) (kp : KeptPlaces n m Sheet kept) (q : ℕ) (lq : q < m) (k : ℕ) (R : ℕ → Row) (β : ℕ → ℕ) (S : ℕ → ℕ → Bool)
     (b : Built n m Sheet kept q k R β S) where
   abbrev pub left-over : Row
   left-over = reduce k R β (Sheet q)

@@ -20,7 +20,7 @@ use Rattle.gf2.proofs.Sat.{row-cong}
 use Rattle.linear.proofs.Combine.{combine-sound, combine-xor}
 use Rattle.linear.proofs.Insert.{combine-combine, combine-cong, combine-one, combine-add}
 use Rattle.linear.proofs.Pivot.{pivot-own}
-use Rattle.linear.specs.State.{Earlier, Summed, Kept, Built}
+use Rattle.linear.specs.State.{Earlier, Summed, KeptPlaces, Built}
 
 -- a selection for each row below k
 pub selections : (k : ℕ) (P : ℕ → (ℕ → Bool) → Type 0) → ((r : ℕ) → r < k → (s : ℕ → Bool) × P r s) → (S : ℕ → ℕ → Bool) × ((r : ℕ) → r < k → P r (S r))
@@ -94,7 +94,7 @@ pub earlier-less : (kept : ℕ → Bool) (q : ℕ) (s : ℕ → Bool) → Earlie
 earlier-less kept q s f e j h = (let l = f j h .0 in let d : j ≢ q = λ z. true≢false (sym h ∙ ap s z ∙ e) in omega arith, f j h .1)
 
 -- ---- kept rows are independent
-module _ (n m : ℕ) (Sheet : ℕ → Row) (kept : ℕ → Bool) (kp : Kept n m Sheet kept) where
+module _ (n m : ℕ) (Sheet : ℕ → Row) (kept : ℕ → Bool) (kp : KeptPlaces n m Sheet kept) where
   independent-below : (q : ℕ) → q ≤ m → (s : ℕ → Bool) → Earlier kept q s → SameCoefs n (combine m s Sheet) (λ v. false) → (j : ℕ) → s j ≡ false
   independent-below zero l s f z j = go (bool-dec (s j))
     where

@@ -23,7 +23,7 @@ use Rattle.gf2.proofs.Chosen.{chosen-part, chosen-total}
 use Rattle.gf2.proofs.Scans.{chosen-end}
 use Rattle.gf2.proofs.Values.{takes-append}
 use Rattle.linear.specs.Systems.{combine}
-use Rattle.linear.specs.State.{Earlier, Summed, Kept, Fails, one-if, tally}
+use Rattle.linear.specs.State.{Earlier, Summed, KeptPlaces, Fails, one-if, tally}
 use Rattle.linear.specs.Positions.{numbered, byNumber, keptRows}
 use Rattle.linear.proofs.Keeping.{Selection, part-selection}
 
@@ -133,7 +133,7 @@ bool-same true false = inr true≢false
 bool-same false true = inr false≢true
 bool-same false false = inl refl
 
-module _ (n m : ℕ) (Sheet : ℕ → Row) (kept : ℕ → Bool) (kp : Kept n m Sheet kept) where
+module _ (n m : ℕ) (Sheet : ℕ → Row) (kept : ℕ → Bool) (kp : KeptPlaces n m Sheet kept) where
   takes-row : (q : ℕ) → q < m → ((s : ℕ → Bool) → Fails n m Sheet kept q s → ⊥) → (b : Bool) → kept q ≡ b
       → Takes n (keptRows q Sheet kept) (numberedRow Sheet q ∷ []) (passed (keptRows q Sheet kept ++ with-row b (numberedRow Sheet q) []))
   takes-row q l none true e = keep (λ ps h. let w = rows-sum n m Sheet kept q (omega arith) ps h in kp .chosen q l e (w .0) (w .1)) end

@@ -1,6 +1,7 @@
 -- THE INVARIANT OF THE MODULE, on rows, values and literals (where they lie in words is said in tableau).
 -- Rows of a sheet go by their place: row q has the number q + 1. A place that no row has reads as the row 0 ≡ 0.
---   Earlier, Summed, Kept   which rows are kept, by their places; Fails: a row that contradicts
+--   Earlier, Summed         a choice of kept rows before row q; one whose coefficients sum to those of row q
+--   KeptPlaces, Fails       which rows are kept, by their places; a row that contradicts
 --   one-if, tally           1 for a flag; how many of the first places have one
 --   Built                   a tableau that says what the first q rows of the sheet say, with the provenance of its rows
 --   Taken                   the taken literals: of distinct variables, none basic
@@ -25,7 +26,7 @@ abbrev pub Summed : (n m : ℕ) → (ℕ → Row) → (ℕ → Bool) → ℕ →
 Summed n m Sheet kept q s = Earlier kept q s × SameCoefs n (combine m s Sheet) (Sheet q)
 
 -- a row is kept exactly if its coefficients are no such sum
-pub record Kept (n m : ℕ) (Sheet : ℕ → Row) (kept : ℕ → Bool) : Type 0 where
+pub record KeptPlaces (n m : ℕ) (Sheet : ℕ → Row) (kept : ℕ → Bool) : Type 0 where
   pub left : (q : ℕ) → q < m → kept q ≡ false → (s : ℕ → Bool) × Summed n m Sheet kept q s
   pub chosen : (q : ℕ) → q < m → kept q ≡ true → (s : ℕ → Bool) → Summed n m Sheet kept q s → ⊥
 

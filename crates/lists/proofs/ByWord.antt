@@ -23,7 +23,7 @@ use Rattle.words.specs.Words.{digit, bitOf, bitAt}
 use Rattle.words.proofs.Bits.{bit-xor, bit-in, bit-front}
 use Rattle.tableau.specs.Layout.{rowAt, fromAt, knownAt, truthAt}
 use Rattle.tableau.specs.View.{vals}
-use Rattle.lists.specs.Listing.{numbers, isNew, isOther, First, But, items, Listed}
+use Rattle.lists.specs.Listing.{numbers, isNew, isOther, FirstOnes, But, items, ListPut}
 use Rattle.lists.proofs.Picking.{Grows, scanned-grows, numbers-grows, passed, grown, few, gap, joined, listed-none, listed-join}
 use Rattle.lists.proofs.Digits.{without, items-grows}
 
@@ -39,16 +39,16 @@ rows work r k = numbers k (bitAt work (fromAt r))
 -- ---- the loop over words
 pub record Scanned (l : ℕ → List ℕ) (n at w : ℕ) (out o : List ℕ) (c : ℕ) : Type 0 where
   pub near : w * 64 < n + 64
-  pub listed : Listed n at (l (min (w * 64) n)) out o c
+  pub listed : ListPut n at (l (min (w * 64) n)) out o c
 
 pub record Step (l : ℕ → List ℕ) (n at w : ℕ) (out o : List ℕ) (c : ℕ) (m : List ℕ) : Type 0 where
   pub room : c + length m ≤ length o
-  pub turn : (most x : ℕ) (o′ : List ℕ) → Listed most c m o o′ x → Scanned l n at (w + 1) out o′ x
+  pub turn : (most x : ℕ) (o′ : List ℕ) → ListPut most c m o o′ x → Scanned l n at (w + 1) out o′ x
 
 pub scan-start : {l : ℕ → List ℕ} {p : ℕ → Bool} {g : ℕ → ℕ} → Grows l p g → (n at : ℕ) (out : List ℕ) → at ≤ n → Scanned l n at 0 out out at
 scan-start h n at out b = let e : min (0 * 64) n ≡ 0 = omega arith in record { near = omega arith; listed = rw (e, h .none) (listed-none n at out b) }
 
-pub scan-end : (l : ℕ → List ℕ) (n at w : ℕ) (out o : List ℕ) (c : ℕ) → Scanned l n at w out o c → n ≤ w * 64 → Listed n at (l n) out o c
+pub scan-end : (l : ℕ → List ℕ) (n at w : ℕ) (out o : List ℕ) (c : ℕ) → Scanned l n at w out o c → n ≤ w * 64 → ListPut n at (l n) out o c
 scan-end l n at w out o c k z = let e : min (w * 64) n ≡ n = omega arith in rw e at (k .listed)
 
 step : {l : ℕ → List ℕ} {p : ℕ → Bool} {g : ℕ → ℕ} → Grows l p g → (n at w : ℕ) (out o : List ℕ) (c : ℕ) (m : List ℕ)
@@ -60,7 +60,7 @@ step {l} {p} {g} h n at w out o c m fits big k live e =
           record { near = omega arith; listed = rw (z, e) (listed-join n most at c x (l (w * 64)) m out o o′ before t within) };
     }
   where
-    before : Listed n at (l (w * 64)) out o c
+    before : ListPut n at (l (w * 64)) out o c
     before = let z : min (w * 64) n ≡ w * 64 = omega arith in rw z at (k .listed)
 
     within : at + length (l (w * 64) ++ m) ≤ n
@@ -70,7 +70,7 @@ step {l} {p} {g} h n at w out o c m fits big k live e =
 
 -- ---- one word more
 -- the word z has the places that are picked; x has those of them that the scan reaches
-word : {l : ℕ → List ℕ} {p : ℕ → Bool} {g : ℕ → ℕ} → Grows l p g → (n base z x y s : ℕ) → base < n → First z (n - base) x
+word : {l : ℕ → List ℕ} {p : ℕ → Bool} {g : ℕ → ℕ} → Grows l p g → (n base z x y s : ℕ) → base < n → FirstOnes z (n - base) x
     → ((i : ℕ) → i < 64 → p (base + i) ≡ bitOf z (63 - i)) → ((i : ℕ) → i < 64 → bitOf x (63 - i) ≡ true → g (base + i) ≡ s * (base + i + 1) + y / 2 ^ (63 - i) % 2)
     → l (min (base + 64) n) ≡ l base ++ items 64 x y s base
 word {l} {p} {g} h n base z x y s live f pick item =
@@ -96,7 +96,7 @@ code-item u y j b e =
     ap (code (suc u)) e ∙ code-digit (suc u) (y / 2 ^ j % 2) (mod-lt (y / 2 ^ j) (zero-lt-suc 1)) ∙ ap (λ (v : ℕ). 2 * v + y / 2 ^ j % 2) (sym (add-one u))
 
 -- the turn of each loop: what the code reads, and of which variable it takes the digit away, are equations
-module _ (n w z x : ℕ) (live : w * 64 < n) (first : First z (n - w * 64) x) (work out o : List ℕ) (c : ℕ) (big : n ≤ length out) where
+module _ (n w z x : ℕ) (live : w * 64 < n) (first : FirstOnes z (n - w * 64) x) (work out o : List ℕ) (c : ℕ) (big : n ≤ length out) where
   pub new-step : (old : List ℕ) (u v : ℕ) → Scanned (news work old v) n 0 w out o c
       → But (bitXor (getD work (knownAt + w) 0) (bitAnd (getD work (knownAt + w) 0) (getD old w 0))) (w * 64) u z → u ≡ v
       → Step (news work old v) n 0 w out o c (items 64 x (bitXor x (getD work (truthAt + w) 0)) 2 (w * 64))

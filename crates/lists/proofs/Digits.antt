@@ -25,11 +25,11 @@ use Rattle.words.specs.Words.{digit, bitOf}
 use Rattle.words.proofs.Bits.{bit-xor, bit-and, pow-bit}
 use Rattle.words.proofs.Ones.{high-digit, low-digit, one-digit, zeros-lt, Left, left-start, left-end, left-seen, left-top, left-skip, left-next}
 use Rattle.tableau.specs.Layout.{maxVars}
-use Rattle.lists.specs.Listing.{First, But, items, Listed}
+use Rattle.lists.specs.Listing.{FirstOnes, But, items, ListPut}
 use Rattle.lists.proofs.Picking.{Grows, passed, grown, listed-none, listed-one, listed-join}
 
 -- ---- the first digits
-pub first-shifted : (x k : ℕ) → x < 2 ^ 64 → 0 < k → k < 64 → First x k (x / 2 ^ (64 - k) * 2 ^ (64 - k) % 2 ^ 64)
+pub first-shifted : (x k : ℕ) → x < 2 ^ 64 → 0 < k → k < 64 → FirstOnes x k (x / 2 ^ (64 - k) * 2 ^ (64 - k) % 2 ^ 64)
 first-shifted x k f pos l =
     record {
       kept = λ i a b.
@@ -45,7 +45,7 @@ first-shifted x k f pos l =
     whole : x / 2 ^ (64 - k) * 2 ^ (64 - k) % 2 ^ 64 ≡ x / 2 ^ (64 - k) * 2 ^ (64 - k)
     whole = mod-eq-of-lt (lt-of-le-of-lt (let e = split x (64 - k) in omega arith) f)
 
-pub first-all : (x k : ℕ) → 64 ≤ k → First x k x
+pub first-all : (x k : ℕ) → 64 ≤ k → FirstOnes x k x
 first-all x k l = record { kept = λ i a b. refl; none = λ i a b. absurd (omega arith) }
 
 -- ---- the digits but that of a variable
@@ -91,7 +91,7 @@ item-le s y h k = mul-le-mul h k
 pub record Rest (x t s base at : ℕ) (out o : List ℕ) (rest c : ℕ) : Type 0 where
   pub seen : ℕ
   pub ones : Left x seen rest
-  pub listed : Listed (length out) at (items seen x t s base) out o c
+  pub listed : ListPut (length out) at (items seen x t s base) out o c
 
 pub rest-start : (x t s base at : ℕ) (out : List ℕ) → x < 2 ^ 64 → at ≤ length out → Rest x t s base at out out x at
 unfolding items
@@ -141,7 +141,7 @@ module _ (x t s base at : ℕ) (out o : List ℕ) (rest c : ℕ) (h : Rest x t s
         listed = rw more (listed-join (length out) (length o) at c (c + 1) (items (h .seen) x t s base) (item ∷ []) out o (set o c item) (h .listed) (listed-one c item o rest-room) more-room);
       }
 
-pub rest-end : (x t s base at : ℕ) (out o : List ℕ) (rest c : ℕ) → Rest x t s base at out o rest c → rest ≡ 0 → Listed (length out) at (items 64 x t s base) out o c
+pub rest-end : (x t s base at : ℕ) (out o : List ℕ) (rest c : ℕ) → Rest x t s base at out o rest c → rest ≡ 0 → ListPut (length out) at (items 64 x t s base) out o c
 rest-end x t s base at out o rest c h z = rw all (h .listed)
   where
     all : items 64 x t s base ≡ items (h .seen) x t s base

@@ -27,7 +27,7 @@ use Rattle.words.specs.Words.{bitOf, bitAt}
 use Rattle.words.proofs.Bits.{zero-bits}
 use Rattle.tableau.specs.Layout.{knownAt}
 use Rattle.tableau.specs.View.{vals}
-use Rattle.lists.specs.Listing.{numbers, isNew, Listed}
+use Rattle.lists.specs.Listing.{numbers, isNew, ListPut}
 
 -- ---- the list of a scan
 pub record Grows (l : ℕ → List ℕ) (p : ℕ → Bool) (g : ℕ → ℕ) : Type 0 where
@@ -96,10 +96,10 @@ module _ {l : ℕ → List ℕ} {p : ℕ → Bool} {g : ℕ → ℕ} (h : Grows 
       ∙ ap (λ (x : List ℕ). l base ++ x) (sym (o .more d))
 
 -- ---- lists in the buffer
-pub listed-none : (most at : ℕ) (out : List ℕ) → at ≤ most → Listed most at [] out out at
+pub listed-none : (most at : ℕ) (out : List ℕ) → at ≤ most → ListPut most at [] out out at
 listed-none most at out m = record { count = sym (add-zero at); few = m; long = refl; used = λ i h. absurd (not-suc-le-zero h); rest = λ i h. refl }
 
-pub listed-one : (c x : ℕ) (o : List ℕ) → c < length o → Listed (length o) c (x ∷ []) o (set o c x) (c + 1)
+pub listed-one : (c x : ℕ) (o : List ℕ) → c < length o → ListPut (length o) c (x ∷ []) o (set o c x) (c + 1)
 listed-one c x o m = record { count = refl; few = omega arith; long = length-set o c x; used = used; rest = rest }
   where
     used : (i : ℕ) → i < 1 → getD (set o c x) (c + i) 0 ≡ getD (x ∷ []) i 0
@@ -110,7 +110,7 @@ listed-one c x o m = record { count = refl; few = omega arith; long = length-set
     rest i (inl z) = getD-set-other o c i x 0 (λ (e : i ≡ c). absurd (omega arith))
     rest i (inr z) = getD-set-other o c i x 0 (λ (e : i ≡ c). absurd (omega arith))
 
-pub listed-join : (n most at c x : ℕ) (l m out o o′ : List ℕ) → Listed n at l out o c → Listed most c m o o′ x → at + length (l ++ m) ≤ n → Listed n at (l ++ m) out o′ x
+pub listed-join : (n most at c x : ℕ) (l m out o o′ : List ℕ) → ListPut n at l out o c → ListPut most c m o o′ x → at + length (l ++ m) ≤ n → ListPut n at (l ++ m) out o′ x
 listed-join n most at c x l m out o o′ h k room =
     let len = length-append l m in
     record { count = omega arith; few = omega arith; long = k .long ∙ h .long; used = λ i z. used i z (decLt i (length l)); rest = rest }
@@ -134,7 +134,7 @@ listed-join n most at c x l m out o o′ h k room =
     rest i (inl z) = k .rest i (inl (omega (arith, first))) ∙ h .rest i (inl z)
     rest i (inr z) = k .rest i (inr z) ∙ h .rest i (inr (omega (arith, second)))
 
-pub listed-cons : (most : ℕ) (l out o : List ℕ) (x y : ℕ) → 0 < length out → Listed most 1 l (set out 0 y) o x → Listed most 0 (y ∷ l) out o x
+pub listed-cons : (most : ℕ) (l out o : List ℕ) (x y : ℕ) → 0 < length out → ListPut most 1 l (set out 0 y) o x → ListPut most 0 (y ∷ l) out o x
 listed-cons most l out o x y pos h =
     record {
       count = let e = h .count in count (length l) x e;
@@ -155,7 +155,7 @@ listed-cons most l out o x y pos h =
     rest i (inl li) = absurd (not-suc-le-zero li)
     rest i (inr li) = h .rest i (inr li) ∙ getD-set-other out 0 i y 0 (λ (z : i ≡ 0). let e = h .count in absurd (omega arith))
 
-pub listed-take : (most : ℕ) (l out o : List ℕ) (x : ℕ) → Listed most 0 l out o x → most ≤ length out → take x o ≡ l
+pub listed-take : (most : ℕ) (l out o : List ℕ) (x : ℕ) → ListPut most 0 l out o x → most ≤ length out → take x o ≡ l
 listed-take most l out o x h big =
     let e = h .count in
     let f = h .few in
@@ -178,5 +178,5 @@ unfolding bitAt
 new-all k work zero pos = absurd (not-suc-le-zero pos)
 new-all k work (suc i) pos = rw (ap (λ (x : ℕ). bitOf x (63 - i % 64)) (zeros k (0 + i / 64)) ∙ zero-bits (63 - i % 64)) (and-true (bitAt work knownAt i && true) ∙ and-true (bitAt work knownAt i))
 
-pub known-listed : (n k : ℕ) (work : List ℕ) (f : ℕ → Bool) (out o : List ℕ) (x : ℕ) → Listed n 0 (scanned n (isNew work (replicate k 0) 0) f) out o x → Listed n 0 (scanned n (vals work knownAt) f) out o x
+pub known-listed : (n k : ℕ) (work : List ℕ) (f : ℕ → Bool) (out o : List ℕ) (x : ℕ) → ListPut n 0 (scanned n (isNew work (replicate k 0) 0) f) out o x → ListPut n 0 (scanned n (vals work knownAt) f) out o x
 known-listed n k work f out o x h = rw (scanned-same n (isNew work (replicate k 0) 0) (vals work knownAt) f f (λ u m. new-all k work u (m .low)) (λ u m. refl)) at h

@@ -14,7 +14,7 @@ ghost use Rattle.gf2.specs.Places.{scanned};
 ghost use Rattle.words.specs.Words.{bitAt};
 ghost use Rattle.tableau.specs.Layout.{maxVars, maxRows, fromAt, knownAt, truthAt, size};
 ghost use Rattle.tableau.specs.View.{vals};
-ghost use Rattle.lists.specs.Listing.{numbers, isNew, isOther, First, But, items, Listed};
+ghost use Rattle.lists.specs.Listing.{numbers, isNew, isOther, FirstOnes, But, items, ListPut};
 
 // The code of the literal that gives v the value b.
 pub fn literal(v: usize, b: bool) -> u64
@@ -31,7 +31,7 @@ pub fn literal(v: usize, b: bool) -> u64
 // The ones of x among its first k digits, the top one first.
 pub fn first_ones(x: u64, k: usize) -> u64
     requires { ⌜ 0 < k ⌝ }
-    ensures { λ r. ⌜ First x k r ⌝ }
+    ensures { λ r. ⌜ FirstOnes x k r ⌝ }
 {
     if k < 64 {
         let d = 64 - k;
@@ -59,7 +59,7 @@ pub fn but(x: u64, base: usize, v: usize) -> u64
 // The ones of x are listed from place `at` on: that of digit i, the top one first, as s * (base + i + 1), and 1 more where t has a one too.
 pub fn list_word(x: u64, t: u64, s: u64, base: usize, at: usize, out: &mut [u64]) -> usize
     requires { ⌜ (s ≤ 2) × (base + 64 ≤ maxVars) × (at + length (items 64 x t s base) ≤ length (now out)) ⌝ }
-    ensures { λ r. ⌜ Listed (length (now (out .entry))) at (items 64 x t s base) (now (out .entry)) (now (out .exit)) r ⌝ }
+    ensures { λ r. ⌜ ListPut (length (now (out .entry))) at (items 64 x t s base) (now (out .entry)) (now (out .exit)) r ⌝ }
 {
     let mut rest = x;
     let mut c = at;
@@ -76,7 +76,7 @@ pub fn list_word(x: u64, t: u64, s: u64, base: usize, at: usize, out: &mut [u64]
 // The literals of the variables that are new, given which had a value before.
 pub fn list_new(work: &[u64], old: &[u64], v: usize, n: usize, out: &mut [u64]) -> usize
     requires { ⌜ (size ≤ length (now work)) × (8 ≤ length (now old)) × (n ≤ maxVars) × (n ≤ length (now out)) ⌝ }
-    ensures { λ x. ⌜ Listed n 0 (scanned n (isNew (now (work .entry)) (now (old .entry)) v) (vals (now (work .entry)) truthAt)) (now (out .entry)) (now (out .exit)) x ⌝ }
+    ensures { λ x. ⌜ ListPut n 0 (scanned n (isNew (now (work .entry)) (now (old .entry)) v) (vals (now (work .entry)) truthAt)) (now (out .entry)) (now (out .exit)) x ⌝ }
 {
     let mut c = 0;
     let mut w = 0;
@@ -95,7 +95,7 @@ pub fn list_new(work: &[u64], old: &[u64], v: usize, n: usize, out: &mut [u64]) 
 // The literals of all variables that have a value.
 pub fn list_known(work: &[u64], n: usize, out: &mut [u64]) -> usize
     requires { ⌜ (size ≤ length (now work)) × (n ≤ maxVars) × (n ≤ length (now out)) ⌝ }
-    ensures { λ x. ⌜ Listed n 0 (scanned n (vals (now (work .entry)) knownAt) (vals (now (work .entry)) truthAt)) (now (out .entry)) (now (out .exit)) x ⌝ }
+    ensures { λ x. ⌜ ListPut n 0 (scanned n (vals (now (work .entry)) knownAt) (vals (now (work .entry)) truthAt)) (now (out .entry)) (now (out .exit)) x ⌝ }
 {
     let old = [0u64; 8];
     list_new(work, &old, 0, n, out)
@@ -104,7 +104,7 @@ pub fn list_known(work: &[u64], n: usize, out: &mut [u64]) -> usize
 // From place 1 on, the negations of the values of the variables of row r but v.
 pub fn list_others(work: &[u64], r: usize, v: usize, n: usize, out: &mut [u64]) -> usize
     requires { ⌜ (size ≤ length (now work)) × (r < maxRows) × (n ≤ maxVars) × (n ≤ length (now out)) × (0 < v) × (v ≤ n) ⌝ }
-    ensures { λ x. ⌜ Listed n 1 (scanned n (isOther (now (work .entry)) r v) (λ u. not (vals (now (work .entry)) truthAt u))) (now (out .entry)) (now (out .exit)) x ⌝ }
+    ensures { λ x. ⌜ ListPut n 1 (scanned n (isOther (now (work .entry)) r v) (λ u. not (vals (now (work .entry)) truthAt u))) (now (out .entry)) (now (out .exit)) x ⌝ }
 {
     let mut c = 1;
     let mut w = 0;
@@ -122,7 +122,7 @@ pub fn list_others(work: &[u64], r: usize, v: usize, n: usize, out: &mut [u64]) 
 // The clause of v, whose value row r gives: v's literal, then the negations.
 pub fn list_clause(work: &[u64], r: usize, v: usize, n: usize, out: &mut [u64]) -> usize
     requires { ⌜ (size ≤ length (now work)) × (r < maxRows) × (n ≤ maxVars) × (n ≤ length (now out)) × (0 < v) × (v ≤ n) ⌝ }
-    ensures { λ x. ⌜ Listed n 0 (code v (bitAt (now (work .entry)) truthAt (v - 1)) ∷ scanned n (isOther (now (work .entry)) r v) (λ u. not (vals (now (work .entry)) truthAt u))) (now (out .entry)) (now (out .exit)) x ⌝ }
+    ensures { λ x. ⌜ ListPut n 0 (code v (bitAt (now (work .entry)) truthAt (v - 1)) ∷ scanned n (isOther (now (work .entry)) r v) (λ u. not (vals (now (work .entry)) truthAt u))) (now (out .entry)) (now (out .exit)) x ⌝ }
 {
     out[0] = literal(v, bit(work, TRUTH, v));
     list_others(work, r, v, n, out)
@@ -131,7 +131,7 @@ pub fn list_clause(work: &[u64], r: usize, v: usize, n: usize, out: &mut [u64]) 
 // The numbers of the rows of the sheet that row r is the sum of.
 pub fn list_rows(work: &[u64], r: usize, m: usize, out: &mut [u64]) -> usize
     requires { ⌜ (size ≤ length (now work)) × (r < maxRows) × (m ≤ maxRows) × (m ≤ length (now out)) ⌝ }
-    ensures { λ x. ⌜ Listed m 0 (numbers m (bitAt (now (work .entry)) (fromAt r))) (now (out .entry)) (now (out .exit)) x ⌝ }
+    ensures { λ x. ⌜ ListPut m 0 (numbers m (bitAt (now (work .entry)) (fromAt r))) (now (out .entry)) (now (out .exit)) x ⌝ }
 {
     let mut c = 0;
     let mut w = 0;

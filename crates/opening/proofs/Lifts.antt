@@ -17,7 +17,7 @@ use Rattle.gf2.specs.Field.{_⊕_, xsum, same}
 use Rattle.gf2.specs.Rows.{Var, Row, SameCoefs}
 use Rattle.gf2.proofs.Field.{xor-false, xor-assoc}
 use Rattle.gf2.proofs.Sums.{sum-last, sum-cong, sum-false}
-use Rattle.linear.specs.State.{Kept}
+use Rattle.linear.specs.State.{KeptPlaces}
 use Rattle.linear.specs.Systems.{combine, Tableau, reduce, extend, pivot, repoint}
 use Rattle.linear.proofs.Assuming.{passed}
 use Rattle.linear.proofs.Exchange.{at-or-not, repoint-at, repoint-other}
@@ -121,7 +121,7 @@ module _ (n k : ℕ) (R : ℕ → Row) (β : ℕ → ℕ) (S : ℕ → ℕ → B
       let s = reduced ln lk ws rr sl r (omega arith) (h .0) (h .2) in turn ln lk r l (h .0) w (s .0) (s .1) (h .3)
 
 -- ---- a row of the sheet
-module _ (n m : ℕ) (Sheet : ℕ → Row) (kept : ℕ → Bool) (kp : Kept n m Sheet kept) (store : List ℕ) (st : StoreRead n m store Sheet) (ln : n ≤ maxVars) (lm : m ≤ maxRows)
+module _ (n m : ℕ) (Sheet : ℕ → Row) (kept : ℕ → Bool) (kp : KeptPlaces n m Sheet kept) (store : List ℕ) (st : StoreRead n m store Sheet) (ln : n ≤ maxVars) (lm : m ≤ maxRows)
     (q k : ℕ) (lq : q < m) (lk : k < maxRows) (ws : List ℕ) (big : size ≤ length ws) (b : BuiltAt ws n m Sheet kept q k) where
   loaded : (a : List ℕ) → Loaded q k store ws a → RowsRead n k a (b .R) (b .β) (b .S) × Slot n k a (Sheet q) (same q)
   loaded a h = (

@@ -16,7 +16,7 @@ use native.Mathlib.Omega.{arith}
 use lib.ListN.{length}
 use Rattle.gf2.specs.Field.{_⊕_, same}
 use Rattle.gf2.specs.Rows.{Row}
-use Rattle.linear.specs.State.{Kept, Fails}
+use Rattle.linear.specs.State.{KeptPlaces, Fails}
 use Rattle.linear.proofs.Opening.{built-none, taken-none}
 use Rattle.linear.proofs.Pigeons.{tally-le}
 use Rattle.words.specs.Words.{bitAt}
@@ -50,7 +50,7 @@ opens-basics store ws big q k w l start = λ r h. absurd (not-suc-le-zero h)
 opens-basics store ws big q k w l (pass p k₁ v w₁ o len r) = row-passed p k₁ store v w r (opens-basics store ws big p k₁ v l o)
 opens-basics store ws big q k w l (grow p k₁ v w₁ o len r) = row-grown p k₁ store v w (omega arith) l r (opens-basics store ws big p k₁ v (omega arith) o)
 
-module _ (n m : ℕ) (Sheet : ℕ → Row) (kept : ℕ → Bool) (kp : Kept n m Sheet kept) (store : List ℕ) (st : StoreRead n m store Sheet) (ln : n ≤ maxVars) (lm : m ≤ maxRows) (ws : List ℕ) (big : size ≤ length ws) where
+module _ (n m : ℕ) (Sheet : ℕ → Row) (kept : ℕ → Bool) (kp : KeptPlaces n m Sheet kept) (store : List ℕ) (st : StoreRead n m store Sheet) (ln : n ≤ maxVars) (lm : m ≤ maxRows) (ws : List ℕ) (big : size ≤ length ws) where
   step-out : (q k : ℕ) (w : List ℕ) → RowOutcome n m Sheet kept q k w 0 → BuiltAt w n m Sheet kept (suc q) k
   step-out q k w (skipped b) = b
 

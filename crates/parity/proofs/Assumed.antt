@@ -29,7 +29,7 @@ use Rattle.tableau.proofs.Runs.{reads-bit}
 use Rattle.exchange.specs.Steps as steps
 use Rattle.exchange.specs.Steps.{Stepped, Outcome, was-held, was-conflict, was-taken}
 use Rattle.exchange.proofs.Steps.{step-made}
-use Rattle.lists.specs.Listing.{isNew, Listed}
+use Rattle.lists.specs.Listing.{isNew, ListPut}
 use Rattle.parity.specs.declared.Assuming.the-variants.{AssumeRefused, Held, Conflict, Taken}
 use Rattle.parity.specs.Promises.{Stands, AssumePromise}
 use Rattle.parity.specs.Offers.{Offered, below, full-held, full-conflict, full-refused}
@@ -143,7 +143,7 @@ module _ (h : Header) (work literals : List ℕ) (code : ℕ) where
 
       -- the literals listed are those that the definition asks for
       module _ (old : List ℕ) (reads : Reads 8 work knownAt old) (e : length w ≡ length (take size work)) (literals′ : List ℕ) (count : ℕ)
-          (l : Listed (h .n) 0 (scanned (h .n) (isNew (w ++ drop size work) old (code / 2)) (vals (w ++ drop size work) truthAt)) literals literals′ count) where
+          (l : ListPut (h .n) 0 (scanned (h .n) (isNew (w ++ drop size work) old (code / 2)) (vals (w ++ drop size work) truthAt)) literals literals′ count) where
         after-bit : (off : ℕ) → off + 8 ≤ size → (i : ℕ) → i < 512 → bitAt (w ++ drop size work) off i ≡ bitAt w off i
         after-bit off b i c =
             sym (front-bit (w ++ drop size work) (let u = replaced-worked work w room e .long in let v = room in omega arith) off b i c) ∙ ap (λ (z : List ℕ). bitAt z off i) (replaced-front work w room e)

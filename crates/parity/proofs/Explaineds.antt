@@ -31,7 +31,7 @@ use Rattle.tableau.proofs.Reading.{bit-of}
 use Rattle.exchange.specs.Steps.{Found}
 use Rattle.exchange.proofs.Finds.{found-none}
 use Rattle.exchange.proofs.Steps.{known-bit, truth-bit}
-use Rattle.lists.specs.Listing.{numbers, isOther, Listed}
+use Rattle.lists.specs.Listing.{numbers, isOther, ListPut}
 use Rattle.parity.specs.declared.Explaining.the-variants.{ExplainRefused, Explained}
 use Rattle.parity.specs.Promises.{Stands, ExplainPromise}
 use Rattle.parity.proofs.Part.{front-bit}
@@ -108,8 +108,8 @@ module _ (h : Header) (work clause rows : List ℕ) (v : ℕ) where
         (found-none (h .n) (h .kept) v work (s .made .R) (s .made .β) (s .made .made .built .tableau) (basic-is p s) (coef-is p s) f) (sym (known-is p s) ∙ e)))
 
     pub promise-explained : (r : ℕ) → r < h .kept → Found work (h .kept) v r → bitAt work knownAt (v - 1) ≡ true → (clause′ rows′ : List ℕ) (x y : ℕ)
-        → Listed (h .n) 0 (code v (bitAt work truthAt (v - 1)) ∷ scanned (h .n) (isOther work r v) (λ u. not (vals work truthAt u))) clause clause′ x
-        → Listed (h .m) 0 (numbers (h .m) (bitAt work (fromAt r))) rows rows′ y
+        → ListPut (h .n) 0 (code v (bitAt work truthAt (v - 1)) ∷ scanned (h .n) (isOther work r v) (λ u. not (vals work truthAt u))) clause clause′ x
+        → ListPut (h .m) 0 (numbers (h .m) (bitAt work (fromAt r))) rows rows′ y
         → ExplainPromise h work clause rows v (Explained x y) clause′ rows′
     promise-explained r l f e clause′ rows′ x y cl nl = record {
       refused = λ c q. absurd (not-refused c q);

@@ -20,7 +20,7 @@ use Rattle.gf2.proofs.Values.{Values, known-listed}
 use Rattle.gf2.proofs.Reach.{opened-reached}
 use Rattle.gf2.specs.Field.{_⊕_, same}
 use Rattle.gf2.specs.Places.{scanned, chosen}
-use Rattle.linear.specs.State.{Kept, Fails}
+use Rattle.linear.specs.State.{KeptPlaces, Fails}
 use Rattle.linear.specs.Positions.{numbered, byNumber, keptRows, codesOf, position}
 use Rattle.linear.proofs.Keeping.{keepTo, kept-exists}
 use Rattle.linear.proofs.Opening.{no-failure}
@@ -44,7 +44,7 @@ use Rattle.sheet.specs.Reader.{said, reading, Reads}
 use Rattle.sheet.proofs.Store.{store-read}
 use Rattle.tableau.specs.Layout.{fromAt, knownAt, truthAt, size}
 use Rattle.tableau.specs.View.{MadeAt, vals}
-use Rattle.lists.specs.Listing.{numbers, Listed}
+use Rattle.lists.specs.Listing.{numbers, ListPut}
 use Rattle.opening.specs.Opened.{AllIn, Stopped}
 use Rattle.opening.proofs.Opens.{opens-built, open-made, open-fails}
 use Rattle.parity.specs.declared.Opening.{Opening}
@@ -110,7 +110,7 @@ module _ (old : Header) (s store work literals rows : List ℕ) where
     abbrev kept : ℕ → Bool
     kept = keepTo (nOf s) (mOf s) Sheet (mOf s)
 
-    is-kept : Kept (nOf s) (mOf s) Sheet kept
+    is-kept : KeptPlaces (nOf s) (mOf s) Sheet kept
     is-kept = kept-exists (nOf s) (mOf s) Sheet
 
     judged : Accepted s (length store) (nOf s) (mOf s) × (size ≤ length work) × (nOf s ≤ length literals) × (mOf s ≤ length rows)
@@ -132,7 +132,7 @@ module _ (old : Header) (s store work literals rows : List ℕ) where
 
     -- ---- all rows went in
     module _ (k : ℕ) (ws : List ℕ) (x : ℕ) (literals′ : List ℕ) (e : length ws ≡ length (take size work)) (a : AllIn (mOf s) store′ (take size work) k ws)
-        (l : Listed (nOf s) 0 (scanned (nOf s) (vals (ws ++ drop size work) knownAt) (vals (ws ++ drop size work) truthAt)) literals literals′ x) where
+        (l : ListPut (nOf s) 0 (scanned (nOf s) (vals (ws ++ drop size work) knownAt) (vals (ws ++ drop size work) truthAt)) literals literals′ x) where
       made : MadeAt ws (nOf s) (mOf s) Sheet kept 0 (λ j. 0) (λ j. false) k
       made = open-made (nOf s) (mOf s) Sheet kept is-kept store′ rows-read (judged .0 .n-small) (judged .0 .m-small) (take size work) (let z = front-long work (judged .1) in omega arith) k ws e a
 
@@ -202,7 +202,7 @@ module _ (old : Header) (s store work literals rows : List ℕ) where
 
     -- ---- row q contradicts
     module _ (q k : ℕ) (ws : List ℕ) (x : ℕ) (rows′ : List ℕ) (e : length ws ≡ length (take size work)) (a : Stopped (mOf s) store′ (take size work) q k ws)
-        (l : Listed (mOf s) 0 (numbers (mOf s) (bitAt (ws ++ drop size work) (fromAt k))) rows rows′ x) where
+        (l : ListPut (mOf s) 0 (numbers (mOf s) (bitAt (ws ++ drop size work) (fromAt k))) rows rows′ x) where
       pub promise-unsatisfiable : OpenPromise old s store work literals rows nothingOpen (Unsatisfiable x) store′ (ws ++ drop size work) literals rows′
       promise-unsatisfiable = record {
         refused = λ c z. absurd (not-refused c z);

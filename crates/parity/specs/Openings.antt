@@ -15,7 +15,7 @@ use Rattle.sheet.specs.declared.Reading.{Reading}
 use Rattle.sheet.specs.Reader.{said}
 use Rattle.tableau.specs.Layout.{fromAt, knownAt, truthAt, size}
 use Rattle.tableau.specs.View.{vals}
-use Rattle.lists.specs.Listing.{numbers, Listed}
+use Rattle.lists.specs.Listing.{numbers, ListPut}
 use Rattle.opening.specs.Opened.{AllIn, Stopped}
 use Rattle.parity.specs.declared.Opening.{Opening}
 use Rattle.parity.specs.declared.Opening.the-variants.{Unsatisfiable, Opened}
@@ -26,8 +26,8 @@ openReading s store words literals rows = said (refusal (openChecks s store word
 
 pub data RowsOpened (n m : ℕ) (store work literals rows : List ℕ) : Header → Opening → List ℕ → List ℕ → List ℕ → Type 0 where
   all-in : (k : ℕ) (ws : List ℕ) (x : ℕ) (literals′ : List ℕ) → length ws ≡ length (take size work) → AllIn m store (take size work) k ws
-      → Listed n 0 (scanned n (vals (ws ++ drop size work) knownAt) (vals (ws ++ drop size work) truthAt)) literals literals′ x
+      → ListPut n 0 (scanned n (vals (ws ++ drop size work) knownAt) (vals (ws ++ drop size work) truthAt)) literals literals′ x
       → RowsOpened n m store work literals rows (opensWith n m k) (Opened x) (ws ++ drop size work) literals′ rows
   stopped : (q k : ℕ) (ws : List ℕ) (x : ℕ) (rows′ : List ℕ) → length ws ≡ length (take size work) → Stopped m store (take size work) q k ws
-      → Listed m 0 (numbers m (bitAt (ws ++ drop size work) (fromAt k))) rows rows′ x
+      → ListPut m 0 (numbers m (bitAt (ws ++ drop size work) (fromAt k))) rows rows′ x
       → RowsOpened n m store work literals rows nothingOpen (Unsatisfiable x) (ws ++ drop size work) literals rows′

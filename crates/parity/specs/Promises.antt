@@ -16,7 +16,7 @@ use lib.Dec.{ltb}
 use Prim.Native.Nat.{ℕ, suc, _+_, _*_, _<_, _≤_}
 use Rattle.gf2.specs.Rows.{Row}
 use Rattle.gf2.specs.Answers.{variable, Position, start, withdrawn, moved, OpenAnswer, AnswersOpen, AssumeAnswer, AnswersAssume, ExplainAnswer, Explanation, Unexplained, Reached}
-use Rattle.linear.specs.State.{Kept}
+use Rattle.linear.specs.State.{KeptPlaces}
 use Rattle.linear.specs.Positions.{position}
 use Rattle.format.specs.Bits.{bitsOf}
 use Rattle.format.specs.Refusals.{Check, check, refusal}
@@ -41,7 +41,7 @@ pub record Stands (h : Header) (work : List ℕ) (p : Position) : Type 0 where
   pub var : ℕ → ℕ
   pub val : ℕ → Bool
   pub fit : Fit h
-  pub is-kept : Kept (h .n) (h .m) Sheet kept
+  pub is-kept : KeptPlaces (h .n) (h .m) Sheet kept
   pub made : MadeAt (take size work) (h .n) (h .m) Sheet kept (h .depth) var val (h .kept)
   pub here : p ≡ position (h .n) (h .m) Sheet (h .depth) var val
   pub reached : Reached p
