@@ -15,15 +15,17 @@
  *
  * WHO OWNS WHAT. The caller owns everything. The module allocates nothing, keeps no pointer after a call
  * and has no variable of its own. A state is a header and the first PARITY_WORK_WORDS words of a working
- * buffer, nothing else: keep the two together, copy both and you have a second state. The words of the
- * working buffer are the module's business; a buffer that does not belong to its header gets a safe answer
- * and no other promise.
+ * buffer, nothing else: keep the two together, copy both and you have a second state. Each call takes the
+ * header that the last one handed back; parity_back lowers it in place and parity_explain leaves it as it is.
+ * An earlier header no longer belongs to the buffer: to go back call parity_back, and do not restore a saved
+ * header without the copy of the buffer that went with it. The words of the working buffer are the module's
+ * business; a buffer that does not belong to its header gets a safe answer and no other promise.
  *
  * SLICES. A buffer is lent as a pointer and its number of ELEMENTS (bytes for sheets, words elsewhere).
- * The pointer is aligned for its type; with 0 elements it may be null. The slices of one call must not
- * overlap, and none may contain the header lent to parity_back: the module does not check this. A buffer
- * may be longer than asked. What lies past the last place used keeps what it had, and so does a buffer whose
- * list is not given.
+ * The pointer is aligned for its type; with 0 elements it may be null. The header lent to parity_back is
+ * aligned and not null. The slices of one call must not overlap, and none may contain that header: the module
+ * does not check this. A buffer may be longer than asked. What lies past the last place used keeps what it
+ * had, and so does a buffer whose list is not given.
  *
  * THREADS. Nothing is shared. Different threads may work on different states at the same time; one state is
  * used by one thread at a time.
@@ -92,7 +94,8 @@ extern "C" {
  *   parity_back      11, 6, 9
  *   parity_explain   11, 6, 7, 8, 10
  *
- * In the answers below a field that the number gives no meaning is 0; a returned header is always meant. */
+ * Refusal 7 is judged whether or not that list will be given. In the answers below a field that the number gives no
+ * meaning is 0; a returned header is always the one to go on with. */
 
 /* ---- The header of a state -------------------------------------------------------------------------------- */
 
@@ -106,9 +109,9 @@ typedef struct parity_header {
 
 /* ---- State the problem ------------------------------------------------------------------------------------ */
 
-/* PARITY_DONE: header is open, at depth 0; literals[0 .. count] are the literals the rows imply, ascending by
- * variable. PARITY_UNSATISFIABLE: rows[0 .. count] are the numbers of rows that contradict each other,
- * ascending; header is all zeros. Else: header is the old one, whose state still stands. */
+/* PARITY_DONE: header is open, at depth 0; the first count words of literals are the literals the rows imply,
+ * ascending by variable. PARITY_UNSATISFIABLE: the first count words of rows are the numbers of rows that contradict
+ * each other, ascending; header is all zeros. Else: header is the old one, whose state still stands. */
 typedef struct parity_opening {
     uint64_t number, count;
     parity_header header;
@@ -122,9 +125,10 @@ parity_opening parity_open(parity_header old, const uint8_t *sheet, size_t sheet
 
 /* ---- Search ----------------------------------------------------------------------------------------------- */
 
-/* PARITY_DONE: taken; literals[0 .. count] are the literals newly implied, ascending by variable, the taken one not
- * among them; header's depth is one more. PARITY_HELD: nothing changed. PARITY_CONFLICT: nothing changed; count is the
- * variable, and parity_explain of it gives the clause unless it was itself assumed. */
+/* PARITY_DONE: taken; the first count words of literals are the literals newly implied, ascending by variable, the
+ * taken one not among them; header's depth is one more. PARITY_HELD: nothing changed. PARITY_CONFLICT: nothing changed;
+ * count is the variable, and parity_explain of it gives the clause unless it was itself assumed. That clause begins
+ * with the literal of the value that the variable has, the opposite of the literal offered. */
 typedef struct parity_assuming {
     uint64_t number, count;
     parity_header header;
@@ -139,8 +143,9 @@ parity_assuming parity_assume(parity_header h, uint64_t *work, size_t work_len, 
  * h->depth lowered in place, or the refusal. */
 uint64_t parity_back(parity_header *h, uint64_t *work, size_t work_len, uint64_t depth);
 
-/* PARITY_DONE: clause[0 .. clause] is the variable's own literal and then the negations of the assumptions it follows
- * from, ascending by variable; rows[0 .. rows] are the kept rows that give it, ascending. */
+/* PARITY_DONE, in an answer e: the first e.clause words of clause are the variable's own literal and then the
+ * negations of the assumptions it follows from, ascending by variable; the first e.rows words of rows are the numbers
+ * of the kept rows that give it, ascending. */
 typedef struct parity_explaining {
     uint64_t number, clause, rows;
 } parity_explaining;
@@ -153,7 +158,8 @@ parity_explaining parity_explain(parity_header h, const uint64_t *work, size_t w
 /* ---- Sheets -----------------------------------------------------------------------------------------------
  * A sheet is bit-packed, most significant bit first: 10 bits n, 9 bits m, then for each row n coefficient bits,
  * variable 1 first, and one parity bit; then zero bits to the end of the byte. A row store has nine words a row: eight
- * coefficient words, variable 1 in the top bit of the first, and a word that is 0 or 1, the parity. */
+ * coefficient words, variable 1 in the top bit of the first, and a word that is 0 or 1, the parity. Bits past variable
+ * n are 0. */
 
 typedef struct parity_reading {
     uint64_t number, n, m;
@@ -163,10 +169,10 @@ typedef struct parity_writing {
     uint64_t number, size;
 } parity_writing;
 
-/* Reads a sheet into store[0 .. 9 * m]. */
+/* Reads a sheet into the first 9 * m words of store: all nine words of each row are written. */
 parity_reading parity_read(const uint8_t *sheet, size_t sheet_len, uint64_t *store, size_t store_len);
 
-/* Writes store[0 .. 9 * m] as a sheet into sheet[0 .. size]. */
+/* Writes the first 9 * m words of store as a sheet into the first size bytes of sheet. */
 parity_writing parity_write(size_t n, size_t m, const uint64_t *store, size_t store_len, uint8_t *sheet,
                             size_t sheet_len);
 

@@ -198,49 +198,192 @@ static void nothing_at_all(void)
     leave(&s);
 }
 
-/* Each refusal once, in the order of its call. */
-static void refusals(void)
+/* ---- the refusals ---- */
+
+static state copy(const state *s)
 {
-    static const uint8_t padded[] = {0x00, 0x00, 0x10}, many[] = {0x80, 0x60, 0x20}, rows257[] = {0x00, 0x20, 0x20};
-    const uint64_t large = (uint64_t)1 << 63;
-    state s = seat(6, 3);
-    parity_header h;
-    uint64_t bad[9] = {0};
+    state c = seat(s->n, s->m);
+    c.header = s->header;
+    memcpy(c.store, s->store, PARITY_ROW_WORDS * s->m * sizeof *c.store);
+    memcpy(c.work, s->work, PARITY_WORK_WORDS * sizeof *c.work);
+    memcpy(c.literals, s->literals, s->n * sizeof *c.literals);
+    memcpy(c.rows, s->rows, s->m * sizeof *c.rows);
+    return c;
+}
+
+static int same_header(parity_header a, parity_header b)
+{
+    return memcmp(&a, &b, sizeof a) == 0;
+}
+
+/* 1 where the state is what its copy is; frees the copy. */
+static int unchanged(const state *s, state *c)
+{
+    int same = same_header(s->header, c->header) &&
+               memcmp(s->store, c->store, PARITY_ROW_WORDS * s->m * sizeof *c->store) == 0 &&
+               memcmp(s->work, c->work, PARITY_WORK_WORDS * sizeof *c->work) == 0 &&
+               memcmp(s->literals, c->literals, s->n * sizeof *c->literals) == 0 &&
+               memcmp(s->rows, c->rows, s->m * sizeof *c->rows) == 0;
+    leave(c);
+    return same;
+}
+
+enum { CHANGED = 99 }; /* no call answers it */
+
+/* Each call with buffers of these lengths: the number it answers, or CHANGED where the header does not come back as it
+ * was lent, another field of the answer is not 0, or a buffer is not what it was. */
+
+static uint64_t read_at(state *s, const uint8_t *sheet, size_t size, size_t store)
+{
+    state c = copy(s);
+    parity_reading r = parity_read(sheet, size, s->store, store);
+    return unchanged(s, &c) && r.n == 0 && r.m == 0 ? r.number : CHANGED;
+}
+
+static uint64_t write_at(size_t n, size_t m, const uint64_t *store, size_t store_len, size_t size)
+{
+    static const uint8_t before[8] = {1, 2, 3, 4, 5, 6, 7, 8};
     uint8_t sheet[8];
+    parity_writing w;
+    memcpy(sheet, before, sizeof sheet);
+    w = parity_write(n, m, store, store_len, sheet, size);
+    return memcmp(sheet, before, sizeof sheet) == 0 && w.size == 0 ? w.number : CHANGED;
+}
 
-    CHECK(parity_read(system_b, 2, s.store, 27).number == PARITY_SHEET_SHORT);
-    CHECK(parity_read(many, 3, s.store, 27).number == PARITY_MANY_VARIABLES);
-    CHECK(parity_read(rows257, 3, s.store, 27).number == PARITY_MANY_ROWS);
-    CHECK(parity_read(system_b, 4, s.store, 27).number == PARITY_SHEET_SHORT);
-    CHECK(parity_read(padded, 3, s.store, 27).number == PARITY_UNCLEAN);
-    CHECK(parity_read(system_b, 5, s.store, 26).number == PARITY_LENT_SHORT);
+static uint64_t open_at(state *s, const uint8_t *sheet, size_t size, size_t store, size_t work, size_t literals,
+                        size_t rows)
+{
+    state c = copy(s);
+    parity_opening o = parity_open(s->header, sheet, size, s->store, store, s->work, work, s->literals, literals,
+                                   s->rows, rows);
+    return unchanged(s, &c) && same_header(o.header, s->header) && o.count == 0 ? o.number : CHANGED;
+}
 
-    CHECK(parity_write((size_t)large, 257, bad, 9, sheet, 8).number == PARITY_MANY_VARIABLES);
-    CHECK(parity_write(6, (size_t)large, bad, 9, sheet, 8).number == PARITY_MANY_ROWS);
-    CHECK(parity_write(6, 2, bad, 9, sheet, 8).number == PARITY_LENT_SHORT);
-    bad[8] = 2;
-    CHECK(parity_write(6, 1, bad, 9, sheet, 0).number == PARITY_UNCLEAN);
-    bad[8] = 1;
-    CHECK(parity_write(6, 1, bad, 9, sheet, 3).number == PARITY_ANSWER_SHORT);
+static uint64_t assume_at(state *s, parity_header h, size_t work, size_t literals, uint64_t code)
+{
+    state c = copy(s);
+    parity_assuming a = parity_assume(h, s->work, work, s->literals, literals, code);
+    return unchanged(s, &c) && same_header(a.header, h) && a.count == 0 ? a.number : CHANGED;
+}
 
+static uint64_t back_at(state *s, parity_header h, size_t work, uint64_t depth)
+{
+    state c = copy(s);
+    parity_header lent = h;
+    uint64_t number = parity_back(&lent, s->work, work, depth);
+    return unchanged(s, &c) && same_header(lent, h) ? number : CHANGED;
+}
+
+static uint64_t explain_at(state *s, parity_header h, size_t work, size_t clause, size_t rows, uint64_t variable)
+{
+    state c = copy(s);
+    parity_explaining e = parity_explain(h, s->work, work, s->literals, clause, s->rows, rows, variable);
+    return unchanged(s, &c) && e.clause == 0 && e.rows == 0 ? e.number : CHANGED;
+}
+
+static const uint8_t many[] = {0x80, 0x60, 0x20};    /* n 513, m 257 */
+static const uint8_t rows257[] = {0x00, 0x20, 0x20}; /* m 257 */
+static const uint8_t padded[] = {0x00, 0x00, 0x10};
+static const uint8_t longer[] = {0x01, 0x80, 0x72, 0xD6, 0x1A, 0x00}; /* system B and a sixth byte */
+
+/* Each refusal once for each case of its line in document 01, in the order of its call. Where a later check would fail
+ * too, it must not be the one that answers. */
+
+static void refused_sheets(void)
+{
+    const size_t large = (size_t)1 << 63;
+    state s = seat(6, 3);
+    uint64_t row[9] = {0};
+
+    CHECK(read_at(&s, many, 2, 0) == PARITY_SHEET_SHORT);
+    CHECK(read_at(&s, many, 3, 0) == PARITY_MANY_VARIABLES);
+    CHECK(read_at(&s, rows257, 3, 0) == PARITY_MANY_ROWS);
+    CHECK(read_at(&s, system_b, 4, 0) == PARITY_SHEET_SHORT);
+    CHECK(read_at(&s, longer, 6, 0) == PARITY_SHEET_LONG);
+    CHECK(read_at(&s, padded, 3, 0) == PARITY_UNCLEAN);
+    CHECK(read_at(&s, system_b, 5, 26) == PARITY_LENT_SHORT);
+
+    CHECK(write_at(large, 257, row, 9, 8) == PARITY_MANY_VARIABLES);
+    CHECK(write_at(6, large, row, 9, 8) == PARITY_MANY_ROWS);
+    row[8] = 2;
+    CHECK(write_at(6, 2, row, 9, 8) == PARITY_LENT_SHORT);
+    CHECK(write_at(6, 1, row, 9, 0) == PARITY_UNCLEAN);
+    row[8] = 1;
+    row[0] = (uint64_t)1 << (63 - 6); /* variable 7 */
+    CHECK(write_at(6, 1, row, 9, 0) == PARITY_UNCLEAN);
+    row[0] = 0;
+    CHECK(write_at(6, 1, row, 9, 3) == PARITY_ANSWER_SHORT);
+    leave(&s);
+}
+
+static void refused_opening(void)
+{
+    state s = seat(6, 3);
     CHECK(open_sheet(&s, system_b, sizeof system_b).number == PARITY_DONE);
-    CHECK(open_sheet(&s, many, 3).number == PARITY_MANY_VARIABLES && s.header.open == 1); /* the old state stands */
     CHECK(assume(&s, PARITY_TRUE(1)).count == 1);
 
-    h = s.header;
-    h.n = large;
-    CHECK(parity_assume(h, s.work, 0, s.literals, 0, 0).number == PARITY_NOT_OPEN);
-    CHECK(parity_back(&h, s.work, PARITY_WORK_WORDS, 0) == PARITY_NOT_OPEN && h.n == large && h.depth == 1);
-    h = s.header;
-    h.open = 2;
-    CHECK(parity_explain(h, s.work, 0, s.literals, 0, s.rows, 0, 0).number == PARITY_NOT_OPEN);
-    h = s.header;
-    CHECK(parity_assume(h, s.work, PARITY_WORK_WORDS - 1, s.literals, 0, 0).number == PARITY_LENT_SHORT);
-    CHECK(parity_assume(h, s.work, PARITY_WORK_WORDS, s.literals, 5, 0).number == PARITY_ANSWER_SHORT);
-    CHECK(parity_assume(h, s.work, PARITY_WORK_WORDS, s.literals, 6, 1).number == PARITY_OUT_OF_RANGE);
-    CHECK(parity_assume(h, s.work, PARITY_WORK_WORDS, s.literals, 6, 14).number == PARITY_OUT_OF_RANGE);
-    CHECK(parity_explain(h, s.work, PARITY_WORK_WORDS, s.literals, 6, s.rows, 2, 0).number == PARITY_ANSWER_SHORT);
-    CHECK(parity_explain(h, s.work, PARITY_WORK_WORDS, s.literals, 6, s.rows, 3, 7).number == PARITY_OUT_OF_RANGE);
+    CHECK(open_at(&s, many, 2, 0, 0, 0, 0) == PARITY_SHEET_SHORT);
+    CHECK(open_at(&s, many, 3, 0, 0, 0, 0) == PARITY_MANY_VARIABLES);
+    CHECK(open_at(&s, rows257, 3, 0, 0, 0, 0) == PARITY_MANY_ROWS);
+    CHECK(open_at(&s, system_b, 4, 0, 0, 0, 0) == PARITY_SHEET_SHORT);
+    CHECK(open_at(&s, longer, 6, 0, 0, 0, 0) == PARITY_SHEET_LONG);
+    CHECK(open_at(&s, padded, 3, 0, 0, 0, 0) == PARITY_UNCLEAN);
+    CHECK(open_at(&s, system_b, 5, 26, PARITY_WORK_WORDS, 0, 0) == PARITY_LENT_SHORT);
+    CHECK(open_at(&s, system_b, 5, 27, PARITY_WORK_WORDS - 1, 0, 0) == PARITY_LENT_SHORT);
+    CHECK(open_at(&s, system_b, 5, 27, PARITY_WORK_WORDS, 5, 3) == PARITY_ANSWER_SHORT);
+    CHECK(open_at(&s, system_b, 5, 27, PARITY_WORK_WORDS, 6, 2) == PARITY_ANSWER_SHORT);
+
+    CHECK(assume(&s, PARITY_FALSE(3)).number == PARITY_HELD); /* the old state stands */
+    leave(&s);
+}
+
+static void refused_search(void)
+{
+    static const parity_header bad[] = {{2, 6, 3, 3, 1},   {1, (uint64_t)1 << 63, 3, 3, 1}, {1, 513, 3, 3, 1},
+                                        {1, 6, 257, 3, 1}, {1, 6, 3, 4, 1},                 {1, 6, 3, 3, 7}};
+    const size_t work = PARITY_WORK_WORDS;
+    state s = seat(6, 3);
+    size_t i;
+    CHECK(open_sheet(&s, system_b, sizeof system_b).number == PARITY_DONE);
+    CHECK(assume(&s, PARITY_TRUE(1)).count == 1);
+
+    for (i = 0; i < sizeof bad / sizeof *bad; i++) {
+        CHECK(assume_at(&s, bad[i], 0, 0, 0) == PARITY_NOT_OPEN);
+        CHECK(back_at(&s, bad[i], 0, 8) == PARITY_NOT_OPEN);
+        CHECK(explain_at(&s, bad[i], 0, 0, 0, 0) == PARITY_NOT_OPEN);
+    }
+
+    CHECK(assume_at(&s, s.header, work - 1, 0, 0) == PARITY_LENT_SHORT);
+    CHECK(assume_at(&s, s.header, work, 5, 0) == PARITY_ANSWER_SHORT);
+    CHECK(assume_at(&s, s.header, work, 6, 1) == PARITY_OUT_OF_RANGE);
+    CHECK(assume_at(&s, s.header, work, 6, 14) == PARITY_OUT_OF_RANGE);
+
+    CHECK(back_at(&s, s.header, work - 1, 2) == PARITY_LENT_SHORT);
+    CHECK(back_at(&s, s.header, work, 2) == PARITY_ABOVE_DEPTH);
+
+    CHECK(explain_at(&s, s.header, work - 1, 0, 0, 0) == PARITY_LENT_SHORT);
+    CHECK(explain_at(&s, s.header, work, 5, 3, 0) == PARITY_ANSWER_SHORT);
+    CHECK(explain_at(&s, s.header, work, 6, 2, 0) == PARITY_ANSWER_SHORT);
+    CHECK(explain_at(&s, s.header, work, 6, 3, 0) == PARITY_OUT_OF_RANGE);
+    CHECK(explain_at(&s, s.header, work, 6, 3, 7) == PARITY_OUT_OF_RANGE);
+    CHECK(explain_at(&s, s.header, work, 6, 3, 1) == PARITY_NOT_IMPLIED); /* assumed */
+    CHECK(explain_at(&s, s.header, work, 6, 3, 2) == PARITY_NOT_IMPLIED); /* no value */
+    leave(&s);
+}
+
+/* Assume's 12 needs a buffer that does not belong to its header: going back with no rows kept leaves variable 1 without
+ * the value that its row gives, and the row names no other. */
+static void refused_exchange(void)
+{
+    static const uint8_t sheet[] = {0x00, 0x40, 0x38}; /* 1 = 1 */
+    state s = seat(1, 1);
+    parity_header foreign;
+    CHECK(open_sheet(&s, sheet, sizeof sheet).count == 1 && s.literals[0] == PARITY_TRUE(1));
+    foreign = s.header;
+    foreign.kept = 0;
+    CHECK(parity_back(&foreign, s.work, PARITY_WORK_WORDS, 0) == PARITY_DONE);
+    CHECK(assume_at(&s, s.header, PARITY_WORK_WORDS, 1, PARITY_TRUE(1)) == PARITY_NO_EXCHANGE);
+    CHECK(s.header.kept == 1 && s.header.depth == 0);
     leave(&s);
 }
 
@@ -250,7 +393,10 @@ int main(void)
     contradiction();
     largest_sheet();
     nothing_at_all();
-    refusals();
+    refused_sheets();
+    refused_opening();
+    refused_search();
+    refused_exchange();
     printf("%d passed, %d failed\n", passed, failed);
     return failed != 0;
 }

@@ -439,6 +439,7 @@ int main(int argc, char **argv)
     } else {
         printf("equal\n");
     }
+    fflush(stdout); /* the answer first, also where both streams go to one file */
     fprintf(stderr, "%ld decisions, %ld conflicts (%ld by rows), %ld explanations\n", tally.decisions, tally.conflicts,
             tally.conflicts_by_rows, tally.explanations);
     for (i = 0; i < clause_count; i++)

@@ -1,11 +1,12 @@
 //! Headers and working buffers that do not belong together. What stays promised for them: refusals 11, 6, 7, 8 and 9
-//! in their order; a refusal changes nothing; of a header only the depth moves, by one and within its bound, or back to
-//! where it is asked; lists are no longer than n and m, and what lies past them and past the 4,096 words is untouched.
+//! in their order; a refusal, held and conflict change nothing; of a header only the depth moves, up by one and no
+//! further than n where a literal is taken, back to where it is asked; lists are no longer than n and m, and what lies
+//! past them and past the 4,096 words is untouched.
 
 use crate::library::*;
 use crate::random::Random;
 use crate::reference::{judge_assume, judge_back, judge_explain, Lent};
-use crate::seat::{equal, ROOM};
+use crate::seat::{equal, Coverage, ROOM};
 use crate::sheets;
 
 type Outcome = Result<(), String>;
@@ -15,9 +16,11 @@ struct Stranger {
     work: Buffer<u64>,
     literals: Buffer<u64>,
     rows: Buffer<u64>,
+    /// The literals that were listed as implied while the buffer was made.
+    implied: Vec<u64>,
 }
 
-pub fn history(random: &mut Random) -> Outcome {
+pub fn history(random: &mut Random, coverage: &mut Coverage) -> Outcome {
     let mut stranger = stranger(random);
     for _ in 0..random.from(5, 40) {
         stranger.literals.refill(random);
@@ -25,14 +28,21 @@ pub fn history(random: &mut Random) -> Outcome {
         let mut len = |all: usize| if random.percent(90) { all } else { random.below(all) };
         let lent = Lent { store: 0, work: len(ROOM.work), literals: len(ROOM.literals), rows: len(ROOM.rows) };
         let n = stranger.header.n.min(600) as usize;
+        if random.percent(20) {
+            stranger.forget(random);
+        }
+        let code = match stranger.implied.is_empty() || random.percent(70) {
+            true => random.below(2 * n + 4) as u64,
+            false => random.pick(&stranger.implied) ^ random.bit() as u64,
+        };
         match random.below(10) {
-            0..=4 => stranger.assume(lent, random.below(2 * n + 4) as u64)?,
-            5..=6 => stranger.back(lent, random.below(stranger.header.depth.min(600) as usize + 2) as u64)?,
-            _ => stranger.explain(lent, random.below(n + 2) as u64)?,
+            0..=4 => stranger.assume(lent, code, coverage)?,
+            5..=6 => stranger.back(lent, random.below(stranger.header.depth.min(600) as usize + 2) as u64, coverage)?,
+            _ => stranger.explain(lent, code / 2, coverage)?,
         }
         if random.percent(10) {
             for variable in 1..=n {
-                stranger.explain(ROOM, variable as u64)?;
+                stranger.explain(ROOM, variable as u64, coverage)?;
             }
             stranger.header = header(random);
         }
@@ -76,7 +86,7 @@ fn lowered(mut header: Header, random: &mut Random) -> Header {
 fn stranger(random: &mut Random) -> Stranger {
     let (mut work, mut literals, mut rows) =
         (Buffer::new(ROOM.work, random), Buffer::new(ROOM.literals, random), Buffer::new(ROOM.rows, random));
-    let mut header = header(random);
+    let (mut header, mut implied) = (header(random), vec![]);
     match random.below(6) {
         0 => {}
         1 => work.cells_mut()[..4096].fill(random.pick(&[0, u64::MAX, 1, 2, 1 << 63])),
@@ -101,10 +111,17 @@ fn stranger(random: &mut Random) -> Stranger {
                 )
             };
             let mut made = opened.header;
+            if opened.number == 0 {
+                implied.extend(&literals.cells()[..opened.count as usize]);
+            }
             for _ in 0..random.below(12) {
                 let code = random.from(2, 2 * made.n.max(1) as usize + 1) as u64;
                 let lists = literals.pointer_mut(ROOM.literals);
-                made = unsafe { parity_assume(made, work.pointer_mut(ROOM.work), ROOM.work, lists, ROOM.literals, code) }.header;
+                let taken = unsafe { parity_assume(made, work.pointer_mut(ROOM.work), ROOM.work, lists, ROOM.literals, code) };
+                if taken.number == 0 {
+                    implied.extend(&literals.cells()[..taken.count as usize]);
+                }
+                made = taken.header;
             }
             if random.percent(80) && opened.number == 0 {
                 header = if random.bit() { lowered(made, random) } else { made };
@@ -115,16 +132,25 @@ fn stranger(random: &mut Random) -> Stranger {
             }
         }
     }
-    Stranger { header, work, literals, rows }
+    Stranger { header, work, literals, rows, implied }
 }
 
 impl Stranger {
-    fn assume(&mut self, lent: Lent, code: u64) -> Outcome {
+    /// Goes back to where the state is, with fewer rows kept: on a buffer that the module made, what the other rows gave
+    /// has no value then, is basic, and finds no variable to exchange.
+    fn forget(&mut self, random: &mut Random) {
+        let mut fewer = Header { kept: random.below(self.header.kept as usize + 1) as u64, ..self.header };
+        unsafe { parity_back(&mut fewer, self.work.pointer_mut(ROOM.work), ROOM.work, fewer.depth) };
+    }
+
+    fn assume(&mut self, lent: Lent, code: u64, coverage: &mut Coverage) -> Outcome {
         let (work, literals) = (self.work.clone(), self.literals.clone());
         let answer = unsafe {
             let lists = self.literals.pointer_mut(lent.literals);
             parity_assume(self.header, self.work.pointer_mut(lent.work), lent.work, lists, lent.literals, code)
         };
+        let full = self.header.depth == self.header.n;
+        coverage.note(if full { "foreign assume at depth n" } else { "foreign assume" }, answer.number);
         let unchanged = |number, count| Answer { number, count, header: self.header };
         let wanted = match (judge_assume(self.header, lent.work, lent.literals, code), answer.number) {
             (Err(number), _) => unchanged(number, 0),
@@ -139,19 +165,19 @@ impl Stranger {
     }
 
     fn taken(&mut self, answer: Answer, work: Buffer<u64>, literals: Buffer<u64>) -> Outcome {
-        let depth = answer.header.depth;
-        equal("a header's other fields", Header { depth: 0, ..answer.header }, Header { depth: 0, ..self.header })?;
-        if depth < self.header.depth || depth > self.header.depth + 1 || depth > self.header.n || answer.count > self.header.n {
-            return Err(format!("{:?} gave {answer:?}", self.header));
+        self.header.depth += 1;
+        equal("the header of a literal taken on a foreign state", answer.header, self.header)?;
+        if self.header.depth > self.header.n || answer.count > self.header.n {
+            return Err(format!("taken on a foreign state: {answer:?}"));
         }
-        self.header = answer.header;
         self.literals.expect_same("literals", &literals, answer.count as usize)?;
         self.work.expect_same("work", &work, 4096)
     }
 
-    fn back(&mut self, lent: Lent, depth: u64) -> Outcome {
+    fn back(&mut self, lent: Lent, depth: u64, coverage: &mut Coverage) -> Outcome {
         let (mut lowered, work) = (self.header, self.work.clone());
         let number = unsafe { parity_back(&mut lowered, self.work.pointer_mut(lent.work), lent.work, depth) };
+        coverage.note("foreign back", number);
         match judge_back(self.header, lent.work, depth) {
             Err(refusal) => {
                 equal("back on a foreign state", (number, lowered), (refusal, self.header))?;
@@ -165,12 +191,13 @@ impl Stranger {
         }
     }
 
-    fn explain(&mut self, lent: Lent, variable: u64) -> Outcome {
+    fn explain(&mut self, lent: Lent, variable: u64, coverage: &mut Coverage) -> Outcome {
         let (work, literals, rows) = (self.work.clone(), self.literals.clone(), self.rows.clone());
         let answer = unsafe {
             let (clause, list) = (self.literals.pointer_mut(lent.literals), self.rows.pointer_mut(lent.rows));
             parity_explain(self.header, self.work.pointer(lent.work), lent.work, clause, lent.literals, list, lent.rows, variable)
         };
+        coverage.note("foreign explain", answer.number);
         self.work.expect_same("work", &work, 0)?;
         let refusal = match (judge_explain(self.header, lent.work, lent.literals, lent.rows, variable), answer.number) {
             (Ok(()), 0) if answer.clause <= self.header.n && answer.rows <= self.header.m => {

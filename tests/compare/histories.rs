@@ -58,7 +58,7 @@ pub fn run(seed: u64, coverage: &mut Coverage) -> (&'static str, Outcome) {
         Family::Two => history.two(),
         Family::Deep => history.deep(),
         Family::Sheets => history.sheets(),
-        Family::Foreign => foreign::history(&mut history.random),
+        Family::Foreign => foreign::history(&mut history.random, history.coverage),
     };
     (name, outcome.map_err(|why| format!("call {}: {why}", history.calls)))
 }

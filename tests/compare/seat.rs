@@ -1,12 +1,13 @@
 //! One state of the module beside the reference's, and each call of the one held to the answer of the other: the
-//! returned numbers, the header, and every cell of every buffer lent.
+//! returned numbers, the header, and every cell of every buffer lent, but for the first 4,096 working words after a call
+//! that may change them: an opening or a back that is not refused, a literal taken.
 
 use crate::library::*;
 use crate::random::Random;
 use crate::reference::{self, judge_header, Assuming, Lent, Opening, State};
 use std::collections::BTreeMap;
 
-/// How often each call gave each number.
+/// How often each call gave each number; `foreign` calls are those of the family of that name.
 #[derive(Default)]
 pub struct Coverage(BTreeMap<(&'static str, u64), u64>);
 
@@ -15,15 +16,20 @@ impl Coverage {
         *self.0.entry((call, number)).or_default() += 1;
     }
 
-    /// Every answer that document 01 gives a call has come up; refusal 12 is for foreign states only.
+    /// Every answer that document 01 gives a call has come up, on a state of the module and on a foreign one; 12 is for
+    /// foreign ones only. At depth n nothing more is taken, and 12 says so.
     pub fn complete(&self) -> Result<(), String> {
-        let all: [(&str, &[u64]); 6] = [
+        let all: [(&str, &[u64]); 10] = [
             ("read", &[0, 1, 2, 3, 4, 5, 6]),
             ("write", &[0, 2, 3, 5, 6, 7]),
             ("open", &[0, UNSATISFIABLE, 1, 2, 3, 4, 5, 6, 7]),
             ("assume", &[0, HELD, CONFLICT, 6, 7, 8, 11]),
             ("back", &[0, 6, 9, 11]),
             ("explain", &[0, 6, 7, 8, 10, 11]),
+            ("foreign assume", &[0, HELD, CONFLICT, 6, 7, 8, 11, 12]),
+            ("foreign assume at depth n", &[HELD, CONFLICT, 12]),
+            ("foreign back", &[0, 6, 9, 11]),
+            ("foreign explain", &[0, 6, 7, 8, 10, 11]),
         ];
         for (call, numbers) in all {
             if let Some(number) = numbers.iter().find(|number| !self.0.contains_key(&(call, **number))) {
