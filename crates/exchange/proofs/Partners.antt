@@ -13,20 +13,19 @@ use native.Mathlib.Omega.{arith}
 use lib.ListN.{getD}
 use lib.Bits.{bitAnd, bitOr, bitXor}
 use Rattle.gf2.specs.Field.{_⊕_, same}
+use Rattle.gf2.proofs.Search.{and-both}
 use Rattle.gf2.proofs.Sums.{same-refl, same-ne}
 use Rattle.linear.proofs.Assume.{clash}
 use Rattle.words.specs.Words.{digit, bitOf, bitAt, ownWord}
 use Rattle.words.proofs.Bits.{bit-xor, bit-and, bit-or, zero-bits, own-bit}
 use Rattle.tableau.specs.Layout.{rowAt, knownAt}
 use Rattle.settle.specs.Values.{lacks}
+use Rattle.settle.proofs.Testing.{and-not}
 
-without : (a b c : Bool) → a ⊕ (a && (b || c)) ≡ (a ⊕ (a && b)) && not c
-without true true true = refl
-without true true false = refl
-without true false true = refl
-without true false false = refl
-without false b true = refl
-without false b false = refl
+without : (a b c : Bool) → a && not (b || c) ≡ (a && not b) && not c
+without true true c = refl
+without true false c = refl
+without false b c = refl
 
 module _ (ws : List ℕ) (r p : ℕ) where
   abbrev pub other-word : ℕ → ℕ
@@ -39,6 +38,7 @@ module _ (ws : List ℕ) (r p : ℕ) where
       ∙ ap (λ (x : Bool). bitOf (getD ws (rowAt r + i / 64) 0) (63 - i % 64) ⊕ x)
       (bit-and (getD ws (rowAt r + i / 64) 0) (bitOr (getD ws (knownAt + i / 64) 0) (ownWord p (i / 64))) (63 - i % 64)
       ∙ ap (λ (x : Bool). bitOf (getD ws (rowAt r + i / 64) 0) (63 - i % 64) && x) (bit-or (getD ws (knownAt + i / 64) 0) (ownWord p (i / 64)) (63 - i % 64) ∙ ap (λ (x : Bool). bitOf (getD ws (knownAt + i / 64) 0) (63 - i % 64) || x) (own-bit p i)))
+      ∙ and-not (bitOf (getD ws (rowAt r + i / 64) 0) (63 - i % 64)) (bitOf (getD ws (knownAt + i / 64) 0) (63 - i % 64) || same p i)
       ∙ without (bitOf (getD ws (rowAt r + i / 64) 0) (63 - i % 64)) (bitOf (getD ws (knownAt + i / 64) 0) (63 - i % 64)) (same p i)
 
   module _ (w b : ℕ) (l : b < 64) where
@@ -49,16 +49,9 @@ module _ (ws : List ℕ) (r p : ℕ) where
         sym (ap₂ (λ (x y : ℕ). bitOf (other-word x) (63 - y)) q s) ∙ other-bit (w * 64 + b)
 
     pub other-yes : other-word w / 2 ^ (63 - b) % 2 ≡ 1 → (w * 64 + b ≢ p) × (lacks ws r (w * 64 + b) ≡ true)
-    other-yes e = let h = sym other-in ∙ ap digit e in (λ z. clash (not (same p (w * 64 + b))) (right (lacks ws r (w * 64 + b)) _ h) (ap (λ (i : ℕ). not (same p i)) z ∙ ap not (same-refl p)), left _ (not (same p (w * 64 + b))) h)
-      where
-        left : (x y : Bool) → x && y ≡ true → x ≡ true
-        left true y h = refl
-        left false y h = h
-
-        right : (x y : Bool) → x && y ≡ true → y ≡ true
-        right true y h = h
-        right false true h = refl
-        right false false h = h
+    other-yes e =
+        let h = and-both (lacks ws r (w * 64 + b)) (not (same p (w * 64 + b))) (sym other-in ∙ ap digit e) in
+        (λ z. clash (not (same p (w * 64 + b))) (h .1) (ap (λ (i : ℕ). not (same p i)) z ∙ ap not (same-refl p)), h .0)
 
     off : bitOf (other-word w) (63 - b) ≡ false → w * 64 + b ≢ p → lacks ws r (w * 64 + b) ≡ false
     off e d = sym (and-true _) ∙ ap (λ (x : Bool). lacks ws r (w * 64 + b) && not x) (sym (same-ne p (w * 64 + b) (λ z. d (sym z)))) ∙ sym other-in ∙ e

@@ -6,14 +6,14 @@
 -- Assumes nothing.
 use mathlib.Core.Path.{_≡_, refl, sym, ap, _∙_}
 use mathlib.Core.List.{List}
-use mathlib.Core.Bool.{Bool, true, false, _&&_, true≢false, false≢true}
+use mathlib.Core.Bool.{true, false, not, true≢false}
 use mathlib.Core.Logic.{_⊎_, inl, inr, _≢_}
 use Prim.Native.Nat.{ℕ, zero, suc, _+_, _-_, _/_, _<_, _≤_}
 use native.Mathlib.Decide.{decLt}
 use native.Mathlib.Omega.{arith}
 use lib.ListN.{getD}
 use lib.Seq.{getD-set-other}
-use Rattle.gf2.specs.Field.{_⊕_}
+use Rattle.gf2.proofs.Search.{and-both}
 use Rattle.words.specs.Words.{bitAt}
 use Rattle.words.proofs.Bits.{bit-same}
 use Rattle.tableau.specs.Layout.{maxVars, maxRows, rowSize, rowAt, lastAt, knownAt}
@@ -57,11 +57,7 @@ module _ (p u : ℕ) where
 -- ---- the variable that was chosen
 lacks-has : (ws : List ℕ) (r i : ℕ) → lacks ws r i ≡ true → bitAt ws (rowAt r) i ≡ true
 unfolding lacks
-lacks-has ws r i h = go (bitAt ws (rowAt r) i) (bitAt ws knownAt i) h
-  where
-    go : (a b : Bool) → a ⊕ (a && b) ≡ true → a ≡ true
-    go true b e = refl
-    go false b e = absurd (false≢true e)
+lacks-has ws r i h = and-both (bitAt ws (rowAt r) i) (not (bitAt ws knownAt i)) h .0
 
 pub partner-has : (ws w : List ℕ) (p q u d code : ℕ) → p < maxRows → 0 < u → Partner ws p q u → Recorded d code ws w → bitAt w (rowAt p) (u - 1) ≡ true
 partner-has ws w p q u d code lp pos h rec =

@@ -7,14 +7,14 @@
 -- Assumes nothing.
 use mathlib.Core.Path.{_≡_, refl, sym, ap, ap₂, _∙_}
 use mathlib.Core.List.{List}
-use mathlib.Core.Bool.{Bool, true, false, Bool·beq, _&&_, true≢false, false≢true}
+use mathlib.Core.Bool.{Bool, true, false, not, Bool·beq, _&&_, true≢false, false≢true}
 use mathlib.Core.Logic.{_⊎_, _≢_}
-use Prim.Native.Nat.{ℕ, zero, suc, _+_, _-_, _/_, _%_, _<_, _≤_}
+use Prim.Native.Nat.{ℕ, zero, suc, _+_, _-_, _/_, _<_, _≤_}
 use native.Mathlib.Omega.{arith}
 use lib.ListN.{length, getD}
-use lib.Dec.{eqb}
-use Rattle.gf2.specs.Field.{_⊕_}
 use Rattle.gf2.specs.Rows.{Var, Row}
+use Rattle.gf2.specs.Answers.{variable, value}
+use Rattle.gf2.proofs.Search.{and-both, not-true}
 use Rattle.gf2.proofs.Sums.{same-refl, same-ne, bool-dec}
 use Rattle.linear.specs.State.{with-at, with-bool}
 use Rattle.linear.specs.Systems.{Implied, Conflict, And, Literals, NonBasic, pivot, repoint}
@@ -51,7 +51,7 @@ beq-other true false h e = true≢false e
 beq-other false true h e = false≢true e
 beq-other false false h e = true≢false h
 
-pub refused-still : (k d code : ℕ) (ws w : List ℕ) → bitAt ws knownAt (code / 2 - 1) ≡ false → Took k d code ws w false → Stepped k d code ws w 12
+pub refused-still : (k d code : ℕ) (ws w : List ℕ) → bitAt ws knownAt (variable code - 1) ≡ false → Took k d code ws w false → Stepped k d code ws w 12
 refused-still k d code ws w e (stuck p l f q z) = rw z (refused e (stuck p l f q refl))
 
 -- ---- a variable without a value is made non-basic
@@ -68,14 +68,9 @@ module _ (n m : ℕ) (Sheet : ℕ → Row) (kept : ℕ → Bool) (d : ℕ) (x : 
   truth-bit v mv = let a = mv .low in let b = mv .high in let c = s .vars in s .values .trues (v - 1) (omega arith) ∙ ap (s .truth) (bit-of v (mv .low))
 
   -- bit i of row p has no value
-  lacks-is : (p : ℕ) → p < k → (i : ℕ) → i < maxVars → lacks ws p i ≡ s .R p (suc i) ⊕ (s .R p (suc i) && s .known (suc i))
+  lacks-is : (p : ℕ) → p < k → (i : ℕ) → i < maxVars → lacks ws p i ≡ s .R p (suc i) && not (s .known (suc i))
   unfolding lacks
-  lacks-is p l i h = ap₂ (λ (a b : Bool). a ⊕ (a && b)) (s .rows .coefs p l i h) (s .values .knows i h)
-
-  lacks-parts : (a b : Bool) → a ⊕ (a && b) ≡ true → (a ≡ true) × (b ≡ false)
-  lacks-parts true true h = (refl, sym h)
-  lacks-parts true false h = (refl, refl)
-  lacks-parts false b h = (h, absurd (false≢true h))
+  lacks-is p l i h = ap₂ (λ (a b : Bool). a && not b) (s .rows .coefs p l i h) (s .values .knows i h)
 
   module _ (v : ℕ) (mv : Var n v) (un : s .known v ≡ false) where
     -- the coefficient of v in a row, as it is read
@@ -116,14 +111,14 @@ module _ (n m : ℕ) (Sheet : ℕ → Row) (kept : ℕ → Bool) (d : ℕ) (x : 
               o : (i < maxVars) × (i ≢ v - 1) × (lacks ws p i ≡ true)
               o = q .some i (sym e)
 
-              parts : (s .R p (suc i) ≡ true) × (s .known (suc i) ≡ false)
-              parts = lacks-parts _ _ (sym (lacks-is p l i (o .0)) ∙ o .2)
+              parts : (s .R p (suc i) ≡ true) × (not (s .known (suc i)) ≡ true)
+              parts = and-both _ _ (sym (lacks-is p l i (o .0)) ∙ o .2)
 
               ru : s .R p u ≡ true
               ru = ap (s .R p) (sym e) ∙ parts .0
 
               ku : s .known u ≡ false
-              ku = ap (s .known) (sym e) ∙ parts .1
+              ku = ap (s .known) (sym e) ∙ not-true _ (parts .1)
 
               kp : s .known (s .β p) ≡ false
               kp = ap (s .known) here ∙ un
@@ -171,78 +166,72 @@ module _ (n m : ℕ) (Sheet : ℕ → Row) (kept : ℕ → Bool) (d : ℕ) (x : 
                   }
 
 -- ---- a literal is taken
-abbrev varOf : ℕ → ℕ
-varOf code = code / 2
-
-abbrev valOf : ℕ → Bool
-valOf code = eqb (code % 2) 0
-
 module _ (n m : ℕ) (Sheet : ℕ → Row) (kept : ℕ → Bool) (d : ℕ) (x : ℕ → ℕ) (y : ℕ → Bool) (k : ℕ) (ws : List ℕ) (code : ℕ) where
-  at-here : with-at x d (varOf code) d ≡ varOf code
+  at-here : with-at x d (variable code) d ≡ variable code
   unfolding with-at
   at-here = rw (same-refl d)
 
-  at-below : (j : ℕ) → j < d → with-at x d (varOf code) j ≡ x j
+  at-below : (j : ℕ) → j < d → with-at x d (variable code) j ≡ x j
   unfolding with-at
   at-below j l = rw (same-ne j d (λ (z : j ≡ d). absurd (omega arith)))
 
-  bool-here : with-bool y d (valOf code) d ≡ valOf code
+  bool-here : with-bool y d (value code) d ≡ value code
   unfolding with-bool
   bool-here = rw (same-refl d)
 
-  bool-below : (j : ℕ) → j < d → with-bool y d (valOf code) j ≡ y j
+  bool-below : (j : ℕ) → j < d → with-bool y d (value code) j ≡ y j
   unfolding with-bool
   bool-below j l = rw (same-ne j d (λ (z : j ≡ d). absurd (omega arith)))
 
-  take-made : Var n (varOf code) → (r : FreeAt ws n m Sheet kept d x y k (varOf code)) → (v w : List ℕ) → Recorded d code ws v → length w ≡ length ws → Followed k (varOf code - 1) (valOf code) v w
-      → MadeAt w n m Sheet kept (suc d) (with-at x d (varOf code)) (with-bool y d (valOf code)) k
+  take-made : Var n (variable code) → (r : FreeAt ws n m Sheet kept d x y k (variable code)) → (v w : List ℕ) → Recorded d code ws v → length w ≡ length ws → Followed k (variable code - 1) (value code) v w
+      → MadeAt w n m Sheet kept (suc d) (with-at x d (variable code)) (with-bool y d (value code)) k
   take-made mv r v w rc len f =
-      follow-made n m Sheet kept d x y k ws s (varOf code) (valOf code) mv (r .nonbasic) (r .unknown) (with-at x d (varOf code)) (with-bool y d (valOf code)) at-below bool-below at-here bool-here
-      (taken-more n m Sheet kept d x y k (s .R) (s .β) (s .S) (s .known) (s .truth) (s .made) (varOf code) mv (r .nonbasic) (r .unknown) (with-at x d (varOf code)) at-below at-here)
+      follow-made n m Sheet kept d x y k ws s (variable code) (value code) mv (r .nonbasic) (r .unknown) (with-at x d (variable code)) (with-bool y d (value code)) at-below bool-below at-here bool-here
+      (taken-more n m Sheet kept d x y k (s .R) (s .β) (s .S) (s .known) (s .truth) (s .made) (variable code) mv (r .nonbasic) (r .unknown) (with-at x d (variable code)) at-below at-here)
       v w len (rc .rest) lits f
     where
       s : MadeAt ws n m Sheet kept d x y k
       s = r .at
 
-      lits : LitsRead (suc d) v (with-at x d (varOf code)) (with-bool y d (valOf code))
+      lits : LitsRead (suc d) v (with-at x d (variable code)) (with-bool y d (value code))
       lits = record {
-        var = at-or-not (suc d) d (λ j. entryAt v j / 2 ≡ with-at x d (varOf code) j) (ap (λ (z : ℕ). z / 2) (rc .here) ∙ sym at-here)
-            (λ j l e. ap (λ (z : ℕ). z / 2) (rc .others j e) ∙ s .lits .var j (omega arith) ∙ sym (at-below j (omega arith)));
-        val = at-or-not (suc d) d (λ j. eqb (entryAt v j % 2) 0 ≡ with-bool y d (valOf code) j) (ap (λ (z : ℕ). eqb (z % 2) 0) (rc .here) ∙ sym bool-here)
-            (λ j l e. ap (λ (z : ℕ). eqb (z % 2) 0) (rc .others j e) ∙ s .lits .val j (omega arith) ∙ sym (bool-below j (omega arith)));
+        var = at-or-not (suc d) d (λ j. variable (entryAt v j) ≡ with-at x d (variable code) j) (ap variable (rc .here) ∙ sym at-here)
+            (λ j l e. ap variable (rc .others j e) ∙ s .lits .var j (omega arith) ∙ sym (at-below j (omega arith)));
+        val = at-or-not (suc d) d (λ j. value (entryAt v j) ≡ with-bool y d (value code) j) (ap value (rc .here) ∙ sym bool-here)
+            (λ j l e. ap value (rc .others j e) ∙ s .lits .val j (omega arith) ∙ sym (bool-below j (omega arith)));
       }
 
 -- ---- the answer to a literal
-module _ (n m : ℕ) (Sheet : ℕ → Row) (kept : ℕ → Bool) (d : ℕ) (x : ℕ → ℕ) (y : ℕ → Bool) (k : ℕ) (ws : List ℕ) (code : ℕ) (mv : Var n (varOf code)) (s : MadeAt ws n m Sheet kept d x y k) where
-  facts : ((known : s .known (varOf code) ≡ true) → s .truth (varOf code) ≡ valOf code → Implied n m Sheet (Literals d x y) (varOf code) (valOf code))
-      × ((known : s .known (varOf code) ≡ true) → s .truth (varOf code) ≢ valOf code → Conflict n m Sheet (And (Literals d x y) (varOf code) (valOf code)))
-      × ((unknown : s .known (varOf code) ≡ false) → Implied n m Sheet (Literals d x y) (varOf code) (valOf code) → ⊥)
-      × ((unknown : s .known (varOf code) ≡ false) → Conflict n m Sheet (And (Literals d x y) (varOf code) (valOf code)) → ⊥)
+module _ (n m : ℕ) (Sheet : ℕ → Row) (kept : ℕ → Bool) (d : ℕ) (x : ℕ → ℕ) (y : ℕ → Bool) (k : ℕ) (ws : List ℕ) (code : ℕ) (mv : Var n (variable code)) (s : MadeAt ws n m Sheet kept d x y k) where
+  facts : ((known : s .known (variable code) ≡ true) → s .truth (variable code) ≡ value code → Implied n m Sheet (Literals d x y) (variable code) (value code))
+      × ((known : s .known (variable code) ≡ true) → s .truth (variable code) ≢ value code → Conflict n m Sheet (And (Literals d x y) (variable code) (value code)))
+      × ((unknown : s .known (variable code) ≡ false) → Implied n m Sheet (Literals d x y) (variable code) (value code) → ⊥)
+      × ((unknown : s .known (variable code) ≡ false) → Conflict n m Sheet (And (Literals d x y) (variable code) (value code)) → ⊥)
   facts =
-      let g = given n m Sheet kept d x y k (s .R) (s .β) (s .S) (s .known) (s .truth) (s .made) (varOf code) (valOf code) mv in
-      let c = conflicts n m Sheet kept d x y k (s .R) (s .β) (s .S) (s .known) (s .truth) (s .made) (varOf code) (valOf code) mv in
+      let g = given n m Sheet kept d x y k (s .R) (s .β) (s .S) (s .known) (s .truth) (s .made) (variable code) (value code) mv in
+      let c = conflicts n m Sheet kept d x y k (s .R) (s .β) (s .S) (s .known) (s .truth) (s .made) (variable code) (value code) mv in
       (λ e f. g .0 (e, f), λ e f. c .0 (e, f), λ e i. clash _ (g .1 i .0) e, λ e i. clash _ (c .1 i .0) e)
 
-  pub step-made : (w : List ℕ) (ans : ℕ) → length w ≡ length ws → Stepped k d code ws w ans → Outcome n m Sheet kept d x y k (varOf code) (valOf code) w ans
-  step-made w ans len (held e f) = was-held (facts .0 (sym (known-bit n m Sheet kept d x y k ws s (varOf code) mv) ∙ e) (sym (truth-bit n m Sheet kept d x y k ws s (varOf code) mv) ∙ f)) s
-  step-made w ans len (conflict e f) = was-conflict (facts .1 (sym (known-bit n m Sheet kept d x y k ws s (varOf code) mv) ∙ e) (λ z. f (truth-bit n m Sheet kept d x y k ws s (varOf code) mv ∙ z))) s
+  pub step-made : (w : List ℕ) (ans : ℕ) → length w ≡ length ws → Stepped k d code ws w ans → Outcome n m Sheet kept d x y k (variable code) (value code) w ans
+  step-made w ans len (held e f) = was-held (facts .0 (sym (known-bit n m Sheet kept d x y k ws s (variable code) mv) ∙ e) (sym (truth-bit n m Sheet kept d x y k ws s (variable code) mv) ∙ f)) s
+  step-made w ans len (conflict e f) = was-conflict (facts .1 (sym (known-bit n m Sheet kept d x y k ws s (variable code) mv) ∙ e) (λ z. f (truth-bit n m Sheet kept d x y k ws s (variable code) mv ∙ z))) s
   step-made w ans len (refused e f) = absurd (none f)
     where
       none : Took k d code ws ws false → ⊥
-      none (stuck p l f q z) = never-stuck n m Sheet kept d x y k ws s (varOf code) mv (sym (known-bit n m Sheet kept d x y k ws s (varOf code) mv) ∙ e) p l f q
+      none (stuck p l f q z) = never-stuck n m Sheet kept d x y k ws s (variable code) mv (sym (known-bit n m Sheet kept d x y k ws s (variable code) mv) ∙ e) p l f q
   step-made w ans len (taken w₁ e f) = was-taken (facts .2 un) (facts .3 un) (go f)
     where
-      un : s .known (varOf code) ≡ false
-      un = sym (known-bit n m Sheet kept d x y k ws s (varOf code) mv) ∙ e
+      un : s .known (variable code) ≡ false
+      un = sym (known-bit n m Sheet kept d x y k ws s (variable code) mv) ∙ e
 
-      go : Took k d code ws w true → MadeAt w n m Sheet kept (suc d) (with-at x d (varOf code)) (with-bool y d (valOf code)) k
-      go (followed v f rc fo) = take-made n m Sheet kept d x y k ws code mv (free-at n m Sheet kept d x y k ws s (varOf code) mv un f) v w rc len fo
-      go (turned p u v l f q pos rc tu) = take-made n m Sheet kept d x y k (a .exchanged) code mv (moved-at n m Sheet kept d x y k ws s (varOf code) mv un p l f u (a .exchanged) (a .long) q pos (a .move)) (a .recorded) w (a .entry) (len ∙ sym (a .long)) (a .values)
+      go : Took k d code ws w true → MadeAt w n m Sheet kept (suc d) (with-at x d (variable code)) (with-bool y d (value code)) k
+      go (followed v f rc fo) = take-made n m Sheet kept d x y k ws code mv (free-at n m Sheet kept d x y k ws s (variable code) mv un f) v w rc len fo
+      go (turned p u v l f q pos rc tu) = take-made n m Sheet kept d x y k (a .exchanged) code mv (moved-at n m Sheet kept d x y k ws s (variable code) mv un p l f u (a .exchanged) (a .long) q pos (a .move)) (a .recorded) w (a .entry) (len ∙ sym (a .long)) (a .values)
         where
-          a : Apart k p u (varOf code - 1) (valOf code) d code ws w
+          a : Apart k p u (variable code - 1) (value code) d code ws w
           a =
               let lo = mv .low in
               let hi = mv .high in
               let c = s .vars in
-              turned-apart k p u (varOf code - 1) (valOf code) d code ws v w (s .few) l (partner-high ws p _ u q) (omega arith) (s .room) len
-              (in-no-other n m Sheet kept d x y k ws s (varOf code) mv un p l f) (in-row n m Sheet kept d x y k ws s (varOf code) mv un p l f) rc tu
+              turned-apart k p u (variable code - 1) (value code) d code ws v w (s .few) l (partner-high ws p _ u q) (omega arith) (s .room) len
+              (in-no-other n m Sheet kept d x y k ws s (variable code) mv un p l f) (in-row n m Sheet kept d x y k ws s (variable code) mv un p l f) rc tu

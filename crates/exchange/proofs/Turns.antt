@@ -4,7 +4,7 @@
 -- Assumes nothing.
 use mathlib.Core.Path.{_≡_, refl, sym, ap, ap₂, _∙_}
 use mathlib.Core.List.{List, [], _∷_}
-use mathlib.Core.Bool.{Bool, true, false, _&&_, _||_}
+use mathlib.Core.Bool.{Bool, true, false, not, _&&_, _||_}
 use mathlib.Core.Logic.{_⊎_, inl, inr, _≢_}
 use Prim.Native.Nat.{ℕ, zero, suc, _+_, _*_, _-_, _/_, _%_, _<_, _≤_}
 use native.Mathlib.Nat.{not-suc-le-zero, le-of-suc-le-suc, suc-inj, suc-ne-zero}
@@ -108,7 +108,7 @@ module _ (w : List ℕ) where
 
     row-lacks : (i : ℕ) → i < maxVars → lacks (over a) r i ≡ lacks a r i
     unfolding lacks
-    row-lacks i l = ap₂ (λ (x y : Bool). x ⊕ (x && y)) (row-bit i l) (over-bit a knownAt i (omega arith))
+    row-lacks i l = ap₂ (λ (x y : Bool). x && not y) (row-bit i l) (over-bit a knownAt i (omega arith))
 
     row-value : valueAt (over a) r ≡ valueAt a r
     row-value = ap₂ _⊕_ (ap (λ (x : ℕ). digit (x % 2)) (word (lastAt r) (omega arith) (omega arith))) (sum-cong maxVars _ _ (λ i l. ap₂ _&&_ (row-bit i l) (over-bit a truthAt i (omega arith))))

@@ -16,10 +16,10 @@ use mathlib.Core.Path.{_≡_}
 use mathlib.Core.List.{List}
 use mathlib.Core.Logic.{_≢_, _⊎_}
 use mathlib.Core.Bool.{Bool, true, false}
-use Prim.Native.Nat.{ℕ, suc, _+_, _*_, _-_, _/_, _%_, _<_, _≤_}
+use Prim.Native.Nat.{ℕ, suc, _+_, _*_, _-_, _%_, _<_, _≤_}
 use lib.ListN.{length, getD, set}
-use lib.Dec.{eqb}
 use Rattle.gf2.specs.Rows.{Row}
+use Rattle.gf2.specs.Answers.{variable, value}
 use Rattle.linear.specs.Systems.{Implied, Conflict, And, Literals}
 use Rattle.linear.specs.State.{with-at, with-bool}
 use Rattle.words.specs.Words.{bitAt}
@@ -69,15 +69,15 @@ pub record Turned (k p u q : ℕ) (b : Bool) (ws w : List ℕ) : Type 0 where
   pub turned : Chain (RowTurned p u) k begun w
 
 pub data Took (k d code : ℕ) (ws w : List ℕ) : Bool → Type 0 where
-  followed : (v : List ℕ) → Found ws k (code / 2) k → Recorded d code ws v → Followed k (code / 2 - 1) (eqb (code % 2) 0) v w → Took k d code ws w true
-  turned : (p u : ℕ) (v : List ℕ) → p < k → Found ws k (code / 2) p → Partner ws p (code / 2 - 1) u → 0 < u → Recorded d code ws v → Turned k p u (code / 2 - 1) (eqb (code % 2) 0) v w → Took k d code ws w true
-  stuck : (p : ℕ) → p < k → Found ws k (code / 2) p → Partner ws p (code / 2 - 1) 0 → w ≡ ws → Took k d code ws w false
+  followed : (v : List ℕ) → Found ws k (variable code) k → Recorded d code ws v → Followed k (variable code - 1) (value code) v w → Took k d code ws w true
+  turned : (p u : ℕ) (v : List ℕ) → p < k → Found ws k (variable code) p → Partner ws p (variable code - 1) u → 0 < u → Recorded d code ws v → Turned k p u (variable code - 1) (value code) v w → Took k d code ws w true
+  stuck : (p : ℕ) → p < k → Found ws k (variable code) p → Partner ws p (variable code - 1) 0 → w ≡ ws → Took k d code ws w false
 
 pub data Stepped (k d code : ℕ) (ws : List ℕ) : List ℕ → ℕ → Type 0 where
-  held : bitAt ws knownAt (code / 2 - 1) ≡ true → bitAt ws truthAt (code / 2 - 1) ≡ eqb (code % 2) 0 → Stepped k d code ws ws 0
-  conflict : bitAt ws knownAt (code / 2 - 1) ≡ true → bitAt ws truthAt (code / 2 - 1) ≢ eqb (code % 2) 0 → Stepped k d code ws ws 1
-  refused : bitAt ws knownAt (code / 2 - 1) ≡ false → Took k d code ws ws false → Stepped k d code ws ws 12
-  taken : (w : List ℕ) → bitAt ws knownAt (code / 2 - 1) ≡ false → Took k d code ws w true → Stepped k d code ws w 2
+  held : bitAt ws knownAt (variable code - 1) ≡ true → bitAt ws truthAt (variable code - 1) ≡ value code → Stepped k d code ws ws 0
+  conflict : bitAt ws knownAt (variable code - 1) ≡ true → bitAt ws truthAt (variable code - 1) ≢ value code → Stepped k d code ws ws 1
+  refused : bitAt ws knownAt (variable code - 1) ≡ false → Took k d code ws ws false → Stepped k d code ws ws 12
+  taken : (w : List ℕ) → bitAt ws knownAt (variable code - 1) ≡ false → Took k d code ws w true → Stepped k d code ws w 2
 
 pub data Outcome (n m : ℕ) (Sheet : ℕ → Row) (kept : ℕ → Bool) (d : ℕ) (x : ℕ → ℕ) (y : ℕ → Bool) (k v : ℕ) (b : Bool) (w : List ℕ) : ℕ → Type 0 where
   was-held : Implied n m Sheet (Literals d x y) v b → MadeAt w n m Sheet kept d x y k → Outcome n m Sheet kept d x y k v b w 0

@@ -109,7 +109,7 @@ pub fn turn_row(work: &mut [u64], p: usize, u: usize, r: usize)
 // Each row from q to below e, 64 at most, that has the variable u is turned; row p, which has it, too if it is one of them.
 pub fn turn_block(work: &mut [u64], q: usize, e: usize, p: usize, u: usize)
     requires { ⌜ (size ≤ length (now work)) × (q < e) × (e ≤ q + 64) × (e ≤ maxRows) × (p < maxRows) × (0 < u) × (u ≤ maxVars) × (bitAt (now work) (rowAt p) (u - 1) ≡ true) ⌝ }
-    ensures { λ _. ⌜ Span (RowTurned p u) q e (now (work .entry)) (now (work .exit)) ⌝ }
+    ensures { λ _. ⌜ Span (RowTurned p u) q (e - q) (now (work .entry)) (now (work .exit)) ⌝ }
 {
     let mut rest = column(work, q, e, u);
     while rest != 0 {

@@ -97,7 +97,7 @@ pub fn in_two(work: &[u64], v: usize, r: usize) -> bool
 // Row k is added into row r and into the next one, if they have the variable v. Mostly neither has, which one test tells.
 pub fn clear_two(work: &mut [u64], k: usize, v: usize, r: usize)
     requires { ⌜ (size ≤ length (now work)) × (k < maxRows) × (r + 2 ≤ k) × (0 < v) × (v ≤ maxVars) ⌝ }
-    ensures { λ _. ⌜ Span (RowCleared k (v - 1)) r (r + 2) (now (work .entry)) (now (work .exit)) ⌝ }
+    ensures { λ _. ⌜ Span (RowCleared k (v - 1)) r 2 (now (work .entry)) (now (work .exit)) ⌝ }
 {
     if in_two(work, v, r) {
         clear_row(work, k, v, r);

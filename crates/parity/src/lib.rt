@@ -9,10 +9,10 @@ ghost use mathlib.Core.Path.{_≡_};
 ghost use Prim.Native.Nat.{_+_, _*_, _<_, _≤_};
 ghost use Rattle.judge.specs.Checks.{atDepth};
 ghost use lib.ListN.{length};
-ghost use Rattle.tableau.specs.Layout.{size};
+ghost use Rattle.tableau.specs.Layout.{maxVars, maxRows, maxTaken, size};
 ghost use Rattle.parity.specs.Offers.{Offered};
 ghost use Rattle.parity.specs.Openings.{openReading, RowsOpened};
-ghost use Rattle.parity.specs.Promises.{OpenPromise, AssumePromise, BackPromise, ExplainPromise};
+ghost use Rattle.parity.specs.Promises.{nothingOpen, opensWith, OpenPromise, AssumePromise, BackPromise, ExplainPromise};
 
 // What open answers: refused with its number; unsatisfiable, with so many row numbers listed; open, with so many implied literals listed.
 pub enum Opening {
@@ -37,7 +37,7 @@ pub enum Explaining {
 
 // A literal is offered, with so many rows kept and so many literals taken: 0 held, 1 conflict, 2 taken, 12 refused.
 fn offer(work: &mut [u64], n: usize, kept: usize, depth: usize, code: usize) -> u64
-    requires { ⌜ (size ≤ length (now work)) × (n ≤ 512) × (kept ≤ 256) × (2 ≤ code) × (code ≤ 2 * n + 1) ⌝ }
+    requires { ⌜ (size ≤ length (now work)) × (n ≤ maxVars) × (kept ≤ maxRows) × (2 ≤ code) × (code ≤ 2 * n + 1) ⌝ }
     ensures { λ x. ⌜ Offered n kept depth code (now (work .entry)) (now (work .exit)) x ⌝ }
 {
     if depth < n {
@@ -92,7 +92,7 @@ pub struct AssumeOut {
 
 // The header, one literal deeper.
 fn deeper(h: Header) -> Header
-    requires { ⌜ h .depth < 512 ⌝ }
+    requires { ⌜ h .depth < maxTaken ⌝ }
     ensures { λ r. ⌜ r ≡ atDepth h (h .depth + 1) ⌝ }
 {
     Header {
@@ -101,6 +101,32 @@ fn deeper(h: Header) -> Header
         m: h.m,
         kept: h.kept,
         depth: h.depth + 1,
+    }
+}
+
+// The header of an opening that is open, with so many rows kept.
+fn opens_with(n: usize, m: usize, kept: usize) -> Header
+    ensures { λ r. ⌜ r ≡ opensWith n m kept ⌝ }
+{
+    Header {
+        open: 1,
+        n,
+        m,
+        kept,
+        depth: 0,
+    }
+}
+
+// The header of an unsatisfiable opening.
+fn nothing_open() -> Header
+    ensures { λ r. ⌜ r ≡ nothingOpen ⌝ }
+{
+    Header {
+        open: 0,
+        n: 0,
+        m: 0,
+        kept: 0,
+        depth: 0,
     }
 }
 
@@ -205,7 +231,7 @@ fn open_all(
     literals: &mut [u64],
     rows: &mut [u64],
 ) -> OpenOut
-    requires { ⌜ (n ≤ 512) × (m ≤ 256) × (9 * m ≤ length (now store)) × (size ≤ length (now work)) × (n ≤ length (now literals)) × (m ≤ length (now rows)) ⌝ }
+    requires { ⌜ (n ≤ maxVars) × (m ≤ maxRows) × (9 * m ≤ length (now store)) × (size ≤ length (now work)) × (n ≤ length (now literals)) × (m ≤ length (now rows)) ⌝ }
     ensures { λ r. ⌜ RowsOpened n m (now (store .entry)) (now (work .entry)) (now (literals .entry)) (now (rows .entry)) (r .header) (r .answer) (now (work .exit)) (now (literals .exit)) (now (rows .exit)) ⌝ }
 {
     let x = opening::open_rows(&mut work[..SIZE], store, m);
@@ -213,26 +239,14 @@ fn open_all(
         opening::Opening::Open(k) => {
             let count = lists::list_known(work, n, literals);
             OpenOut {
-                header: Header {
-                    open: 1,
-                    n,
-                    m,
-                    kept: k,
-                    depth: 0,
-                },
+                header: opens_with(n, m, k),
                 answer: Opening::Opened(count),
             }
         }
         opening::Opening::Unsat(_, k) => {
             let count = lists::list_rows(work, k, m, rows);
             OpenOut {
-                header: Header {
-                    open: 0,
-                    n: 0,
-                    m: 0,
-                    kept: 0,
-                    depth: 0,
-                },
+                header: nothing_open(),
                 answer: Opening::Unsatisfiable(count),
             }
         }

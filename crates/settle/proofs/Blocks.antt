@@ -9,7 +9,7 @@ use mathlib.Core.Path.{_≡_, refl, sym, ap, _∙_}
 use mathlib.Core.List.{List}
 use mathlib.Core.Bool.{true, false, true≢false}
 use mathlib.Core.Logic.{inl, inr}
-use Prim.Native.Nat.{ℕ, zero, suc, _+_, _*_, _-_, _/_, _%_, _^_, _<_, _≤_}
+use Prim.Native.Nat.{ℕ, suc, _+_, _*_, _-_, _/_, _%_, _^_, _<_, _≤_}
 use native.Mathlib.Decide.{decLt}
 use native.Mathlib.Omega.{arith}
 use lib.Bits.{bitXor}
@@ -19,8 +19,8 @@ use Rattle.words.specs.Words.{bitOf, bitAt}
 use Rattle.words.proofs.Bits.{bit-same}
 use Rattle.words.proofs.Ones.{zeros-lt, Left, left-start, left-end, left-seen, left-top, left-skip, left-next}
 use Rattle.tableau.specs.Layout.{maxVars, maxRows, rowAt, knownAt}
-use Rattle.tableau.specs.Buffer.{Chain, Span, Column}
-use Rattle.tableau.proofs.Runs.{chain-more}
+use Rattle.tableau.specs.Buffer.{Span, Column}
+use Rattle.tableau.proofs.Runs.{span-idle}
 use Rattle.settle.specs.Values.{RowSettled, RowFollowed}
 
 -- ---- steps that keep the rows
@@ -41,20 +41,13 @@ pub record Block (Step : ℕ → List ℕ → List ℕ → Type 0) (q e x : ℕ)
   pub seen : ℕ
   pub upto : q + seen ≤ e
   pub ones : Left x seen rest
-  pub going : Span Step q (q + seen) ws w
+  pub going : Span Step q seen ws w
   pub same : (i : ℕ) → rowAt (q + seen) ≤ i → i < knownAt → getD w i 0 ≡ getD ws i 0
   pub len : length w ≡ length ws
 
--- a chain goes on over rows that change nothing
-chain-on : (Step : ℕ → List ℕ → List ℕ → Type 0) (a n : ℕ) (z w : List ℕ) → length w ≡ length z → ((r : ℕ) → a ≤ r → r < a + n → Step r w w) → Chain Step a z w → Chain Step (a + n) z w
-chain-on Step a zero z w l h c = let e : a + 0 ≡ a = omega arith in rw e c
-chain-on Step a (suc n) z w l h c =
-    let e : a + suc n ≡ a + n + 1 = omega arith in
-    rw e (chain-more Step (a + n) z w w l (chain-on Step a n z w l (λ r f g. h r f (omega arith)) c) (h (a + n) (omega arith) (omega arith)))
-
 pub block-start : (Step : ℕ → List ℕ → List ℕ → Type 0) (q e x : ℕ) (ws : List ℕ) → q ≤ e → x < 2 ^ 64 → Block Step q e x ws ws x
 block-start Step q e x ws l f =
-    record { seen = 0; upto = omega arith; ones = left-start x f; going = λ z h c. let s : q + 0 ≡ q = omega arith in rw s c; same = λ i a b. refl; len = refl }
+    record { seen = 0; upto = omega arith; ones = left-start x f; going = refl; same = λ i a b. refl; len = refl }
 
 module _ (Step : ℕ → List ℕ → List ℕ → Type 0) (q e p x : ℕ) (ws : List ℕ) (lp : p < maxVars) (wide : e ≤ q + 64) (rows : e ≤ maxRows) (col : Column ws q e p x)
     (idle : (r : ℕ) (w : List ℕ) → r < e → bitAt ws (rowAt r) p ≡ false → bitAt w (rowAt r) p ≡ false → Step r w w)
@@ -65,18 +58,18 @@ module _ (Step : ℕ → List ℕ → List ℕ → Type 0) (q e p x : ℕ) (ws :
   as-was r l h = bit-same ws w (rowAt r) (rowAt r) p (b .same (rowAt r + p / 64) (omega arith) (omega arith))
 
   -- over rows whose digits are none
-  on : (n : ℕ) → q + b .seen + n ≤ e → ((i : ℕ) → b .seen ≤ i → i < b .seen + n → bitOf x (63 - i) ≡ false) → Span Step q (q + b .seen + n) ws w
-  on n l h z m c = chain-on Step (q + b .seen) n z w (b .len ∙ m) (λ r f g. idle r w (omega arith) (off r f g) (as-was r f (omega arith) ∙ off r f g)) (b .going z m c)
+  on : (n : ℕ) → q + b .seen + n ≤ e → ((i : ℕ) → b .seen ≤ i → i < b .seen + n → bitOf x (63 - i) ≡ false) → Span Step q (b .seen + n) ws w
+  on n l h = span-idle Step q (b .seen) n ws w (b .len) (λ r f g. idle r w (omega arith) (off r f g) (as-was r f (omega arith) ∙ off r f g)) (b .going)
     where
       off : (r : ℕ) → q + b .seen ≤ r → r < q + b .seen + n → bitAt ws (rowAt r) p ≡ false
       off r f g =
           let s : r ≡ q + (r - q) = omega arith in
           ap (λ (y : ℕ). bitAt ws (rowAt y) p) s ∙ sym (col .has (r - q) (omega arith) (omega arith)) ∙ h (r - q) (omega arith) (omega arith)
 
-  pub block-end : rest ≡ 0 → Span Step q e ws w
+  pub block-end : rest ≡ 0 → Span Step q (e - q) ws w
   block-end z =
       let u = b .upto in
-      let s : q + b .seen + (e - (q + b .seen)) ≡ e = omega arith in
+      let s : b .seen + (e - (q + b .seen)) ≡ e - q = omega arith in
       rw s at (on (e - (q + b .seen)) (omega arith) (λ i f g. left-end x (b .seen) rest (b .ones) z i f (omega arith)))
 
   module _ (pos : 0 < rest) where
@@ -102,15 +95,13 @@ module _ (Step : ℕ → List ℕ → List ℕ → Type 0) (q e p x : ℕ) (ws :
           seen = suc top;
           upto = omega (arith, block-row);
           ones = left-next x (b .seen) rest (b .ones) pos;
-          going = λ z m c.
-              let n : q + suc top ≡ q + top + 1 = omega arith in
-              rw n (chain-more Step (q + top) z w v (b .len ∙ m) (before z m c) st);
+          going = (w, b .len, before, st);
           same = λ i f g. apart (q + top) w v st i (omega arith) g ∙ b .same i (omega (arith, left-seen x (b .seen) rest (b .ones) pos)) g;
           len = l ∙ b .len;
         }
       where
-        before : Span Step q (q + top) ws w
+        before : Span Step q top ws w
         before =
             let f = left-seen x (b .seen) rest (b .ones) pos in
-            let s : q + b .seen + (top - b .seen) ≡ q + top = omega arith in
+            let s : b .seen + (top - b .seen) ≡ top = omega arith in
             rw s at (on (top - b .seen) (omega (arith, block-row)) (λ i g h. left-skip x (b .seen) rest (b .ones) pos i g (omega arith)))

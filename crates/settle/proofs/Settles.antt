@@ -5,7 +5,7 @@
 -- Assumes nothing.
 use mathlib.Core.Path.{_≡_, refl, sym, ap, ap₂, _∙_}
 use mathlib.Core.List.{List}
-use mathlib.Core.Bool.{Bool, true, false, _&&_, or-false}
+use mathlib.Core.Bool.{Bool, true, false, not, _&&_, or-false}
 use mathlib.Core.Logic.{_⊎_, inl, inr, _≢_}
 use Prim.Native.Nat.{ℕ, zero, suc, _-_, _<_, _≤_}
 use native.Mathlib.Nat.{not-suc-le-zero}
@@ -16,6 +16,7 @@ use Rattle.gf2.specs.Field.{_⊕_, xsum, same}
 use Rattle.gf2.specs.Rows.{Var, Row, rowSum, Holds}
 use Rattle.gf2.proofs.Field.{xor-out, xor-false, and-left-comm}
 use Rattle.gf2.proofs.Sat.{value-cong, value-cong-on, value-xor, vsum-cong, vsum-one}
+use Rattle.gf2.proofs.Search.{not-true}
 use Rattle.gf2.proofs.Sums.{same-dec, same-refl, same-ne, bool-dec}
 use Rattle.linear.specs.State.{Finished}
 use Rattle.linear.specs.Systems.{Tableau, NonBasic, Decides}
@@ -91,9 +92,9 @@ module _ (n k : ℕ) (ws : List ℕ) (R : ℕ → Row) (β : ℕ → ℕ) (S : �
         go (inr e) = e
         go (inl e) = absurd (clash _ (st .within (β r - 1) small e) (own-known ∙ un))
 
-    lacks-is : (i : ℕ) → i < maxVars → lacks w r i ≡ R r (suc i) ⊕ (R r (suc i) && bitAt w knownAt i)
+    lacks-is : (i : ℕ) → i < maxVars → lacks w r i ≡ R r (suc i) && not (bitAt w knownAt i)
     unfolding lacks
-    lacks-is i l = ap (λ (x : Bool). x ⊕ (x && bitAt w knownAt i)) (rw-read .coefs r lr i l)
+    lacks-is i l = ap (λ (x : Bool). x && not (bitAt w knownAt i)) (rw-read .coefs r lr i l)
 
     in-range : (i : ℕ) → R r (suc i) ≡ true → Var n (suc i)
     in-range i e = record { low = omega arith; high = go (decLe (suc i) n) }
@@ -112,7 +113,7 @@ module _ (n k : ℕ) (ws : List ℕ) (R : ℕ → Row) (β : ℕ → ℕ) (S : �
         alone : (i : ℕ) → i < maxVars → lacks w r i ≡ same (β r - 1) i
         alone i l = lacks-is i l ∙ go (same-dec (suc i) (β r)) (bool-dec (R r (suc i)))
           where
-            go : (suc i ≡ β r) ⊎ (suc i ≢ β r) → (R r (suc i) ≡ true) ⊎ (R r (suc i) ≡ false) → R r (suc i) ⊕ (R r (suc i) && bitAt w knownAt i) ≡ same (β r - 1) i
+            go : (suc i ≡ β r) ⊎ (suc i ≢ β r) → (R r (suc i) ≡ true) ⊎ (R r (suc i) ≡ false) → R r (suc i) && not (bitAt w knownAt i) ≡ same (β r - 1) i
             go (inl e) x =
                 let q : β r - 1 ≡ i = omega arith in
                 rw (ap (R r) e ∙ t .own r lr, sym (ap (bitAt w knownAt) q) ∙ own-known ∙ un, q) (sym (same-refl i))
@@ -149,11 +150,7 @@ module _ (n k : ℕ) (ws : List ℕ) (R : ℕ → Row) (β : ℕ → ℕ) (S : �
     module _ (able : Can w r) (w′ : List ℕ) (pt : Put (β r - 1) (valueAt w r) w w′) where
       -- it had given none before
       none : known (β r) ≡ false
-      none = sym own-known ∙ lacking (bitAt w knownAt (β r - 1)) (rw own at (sym (lacks-is (β r - 1) small) ∙ rw basic-is at (able .alone (β r - 1) small) ∙ same-refl (β r - 1)))
-        where
-          lacking : (x : Bool) → true ⊕ (true && x) ≡ true → x ≡ false
-          lacking true h = sym h
-          lacking false h = refl
+      none = sym own-known ∙ not-true (bitAt w knownAt (β r - 1)) (rw own at (sym (lacks-is (β r - 1) small) ∙ rw basic-is at (able .alone (β r - 1) small) ∙ same-refl (β r - 1)))
 
       away : (i : ℕ) → i < maxVars → suc i ≢ β r → (bitAt w′ knownAt i ≡ bitAt w knownAt i) × (bitAt w′ truthAt i ≡ bitAt w truthAt i)
       away i l d =
@@ -192,7 +189,7 @@ module _ (n k : ℕ) (ws : List ℕ) (R : ℕ → Row) (β : ℕ → ℕ) (S : �
           let a = rw basic-is at (able .alone i l) in
           sym (in-row i l e .0) ∙ full (bitAt w knownAt i) (rw e at (sym (lacks-is i l) ∙ a ∙ same-ne (β r - 1) i (λ z. d (ap suc (sym z) ∙ mine))))
         where
-          full : (x : Bool) → true ⊕ (true && x) ≡ false → x ≡ true
+          full : (x : Bool) → not x ≡ false → x ≡ true
           full true h = refl
           full false h = sym h
 

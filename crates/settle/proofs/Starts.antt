@@ -9,13 +9,13 @@ use mathlib.Core.Path.{_≡_, refl, sym, ap, _∙_}
 use mathlib.Core.List.{List}
 use mathlib.Core.Bool.{Bool, true, false, or-false}
 use mathlib.Core.Logic.{_⊎_, inl, inr, _≢_}
-use Prim.Native.Nat.{ℕ, zero, suc, _+_, _-_, _/_, _%_, _<_, _≤_}
+use Prim.Native.Nat.{ℕ, zero, suc, _+_, _*_, _-_, _/_, _%_, _<_, _≤_}
 use native.Mathlib.Nat.{not-suc-le-zero}
 use native.Mathlib.Omega.{arith}
 use lib.ListN.{getD}
-use lib.Dec.{eqb}
 use Rattle.gf2.specs.Field.{same}
 use Rattle.gf2.specs.Rows.{Var}
+use Rattle.gf2.specs.Answers.{variable, value}
 use Rattle.gf2.proofs.Sums.{same-refl, same-ne, same-eq, bool-dec}
 use Rattle.linear.specs.State.{Started, Taken}
 use Rattle.linear.proofs.Assume.{clash}
@@ -23,13 +23,13 @@ use Rattle.linear.proofs.Exchange.{at-or-not}
 use Rattle.words.specs.Words.{bitOf, bitAt}
 use Rattle.words.proofs.Bits.{zero-bits}
 use Rattle.tableau.specs.Buffer.{Run, Chain, entryAt}
-use Rattle.tableau.specs.Layout.{maxVars, knownAt, truthAt, recordAt}
+use Rattle.tableau.specs.Layout.{maxVars, coefWords, knownAt, truthAt, recordAt}
 use Rattle.tableau.specs.View.{LitsRead, vals}
 use Rattle.tableau.proofs.Reading.{bit-of, entry-stay}
 use Rattle.settle.proofs.Putting.{Within, or-some, or-right, put-within}
 use Rattle.settle.specs.Values.{Entry, Put, EntrySet}
 
-cleared : (ws w : List ℕ) → Run knownAt 16 (λ i. 0) ws w → (i : ℕ) → i < maxVars → (bitAt w knownAt i ≡ false) × (bitAt w truthAt i ≡ false)
+cleared : (ws w : List ℕ) → Run knownAt (2 * coefWords) (λ i. 0) ws w → (i : ℕ) → i < maxVars → (bitAt w knownAt i ≡ false) × (bitAt w truthAt i ≡ false)
 unfolding bitAt
 cleared ws w r i l =
     let e : truthAt + i / 64 ≡ knownAt + (8 + i / 64) = omega arith in (
@@ -37,7 +37,7 @@ cleared ws w r i l =
       ap (λ (x : ℕ). bitOf (getD w x 0) (63 - i % 64)) e ∙ ap (λ (x : ℕ). bitOf x (63 - i % 64)) (r .done (8 + i / 64) (omega arith)) ∙ zero-bits (63 - i % 64),
     )
 
-module _ (n d k : ℕ) (ws : List ℕ) (x : ℕ → ℕ) (y : ℕ → Bool) (β : ℕ → ℕ) (ln : n ≤ maxVars) (t : Taken n d x k β) (ws₀ : List ℕ) (lr : LitsRead d ws x y) (run : Run knownAt 16 (λ i. 0) ws₀ ws) where
+module _ (n d k : ℕ) (ws : List ℕ) (x : ℕ → ℕ) (y : ℕ → Bool) (β : ℕ → ℕ) (ln : n ≤ maxVars) (t : Taken n d x k β) (ws₀ : List ℕ) (lr : LitsRead d ws x y) (run : Run knownAt (2 * coefWords) (λ i. 0) ws₀ ws) where
   -- the first j entries have been set
   pub record Putting (j : ℕ) (w : List ℕ) : Type 0 where
     pub rest : (i : ℕ) → (i < knownAt) ⊎ (recordAt ≤ i) → getD w i 0 ≡ getD ws i 0
@@ -58,11 +58,11 @@ module _ (n d k : ℕ) (ws : List ℕ) (x : ℕ → ℕ) (y : ℕ → Bool) (β 
     code : entryAt w j ≡ entryAt ws j
     code = entry-stay ws w (λ i h. st .rest i (inr h)) j
 
-    var : entryAt w j / 2 ≡ x j
-    var = ap (λ (z : ℕ). z / 2) code ∙ lr .var j lj
+    var : variable (entryAt w j) ≡ x j
+    var = ap variable code ∙ lr .var j lj
 
-    val : eqb (entryAt w j % 2) 0 ≡ y j
-    val = ap (λ (z : ℕ). eqb (z % 2) 0) code ∙ lr .val j lj
+    val : value (entryAt w j) ≡ y j
+    val = ap value code ∙ lr .val j lj
 
     entry : Entry w j
     entry = let v = t .var j lj in let a = v .low in let b = v .high in let e = var in record { low = omega arith; high = omega arith }

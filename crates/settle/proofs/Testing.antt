@@ -1,12 +1,13 @@
 -- THE TEST FOR THE ONE VARIABLE OF A ROW WITHOUT A VALUE, word by word.
+--   and-not               x ^ (x & y) has the ones of x that y has not
 --   open-word ws r j      word j of the variables of row r that have no value, as the code makes it
 --   rest-word ws r p j    the same without variable p + 1: 0 in each word where p + 1 is the only one
 --   full-more, word-bad   a word that passes the test, and that each would
 --   overlay-none, -more   the words laid over one another; overlay-bad: they pass the first test
 -- Assumes nothing.
-use mathlib.Core.Path.{_≡_, sym, ap, ap₂, _∙_}
+use mathlib.Core.Path.{_≡_, refl, sym, ap, ap₂, _∙_}
 use mathlib.Core.List.{List}
-use mathlib.Core.Bool.{Bool, true, false, _&&_, _||_}
+use mathlib.Core.Bool.{Bool, true, false, not, _&&_, _||_}
 use mathlib.Core.Logic.{_⊎_, inl, inr, _≢_}
 use Prim.Native.Nat.{ℕ, _+_, _*_, _-_, _/_, _%_, _^_, _<_}
 use native.Mathlib.Nat.{lt-of-le-of-lt}
@@ -23,6 +24,11 @@ use Rattle.words.proofs.Bits.{bit-xor, bit-and, bit-or, bits-zero, zero-bits, o
 use Rattle.tableau.specs.Layout.{maxVars, rowAt, knownAt}
 use Rattle.settle.specs.Values.{lacks, Overlay}
 
+pub and-not : (a b : Bool) → a ⊕ (a && b) ≡ a && not b
+and-not true true = refl
+and-not true false = refl
+and-not false b = refl
+
 module _ (ws : List ℕ) (r : ℕ) where
   abbrev pub open-word : ℕ → ℕ
   open-word j = bitXor (getD ws (rowAt r + j) 0) (bitAnd (getD ws (rowAt r + j) 0) (getD ws (knownAt + j) 0))
@@ -32,6 +38,7 @@ module _ (ws : List ℕ) (r : ℕ) where
   open-bit i =
       bit-xor (getD ws (rowAt r + i / 64) 0) (bitAnd (getD ws (rowAt r + i / 64) 0) (getD ws (knownAt + i / 64) 0)) (63 - i % 64)
       ∙ ap (λ (x : Bool). bitOf (getD ws (rowAt r + i / 64) 0) (63 - i % 64) ⊕ x) (bit-and (getD ws (rowAt r + i / 64) 0) (getD ws (knownAt + i / 64) 0) (63 - i % 64))
+      ∙ and-not (bitOf (getD ws (rowAt r + i / 64) 0) (63 - i % 64)) (bitOf (getD ws (knownAt + i / 64) 0) (63 - i % 64))
 
   pub overlay-none : Overlay 0 ws r 0
   overlay-none t l e = absurd (clash (bitOf 0 (63 - t)) e (zero-bits (63 - t)))

@@ -15,17 +15,17 @@
 use mathlib.Core.Path.{_≡_}
 use mathlib.Core.List.{List}
 use mathlib.Core.Logic.{_⊎_}
-use mathlib.Core.Bool.{Bool, true, false, _&&_, _||_}
-use Prim.Native.Nat.{ℕ, _+_, _*_, _-_, _/_, _%_, _<_, _≤_}
+use mathlib.Core.Bool.{Bool, true, false, not, _&&_, _||_}
+use Prim.Native.Nat.{ℕ, _+_, _*_, _-_, _<_, _≤_}
 use lib.ListN.{length, getD}
-use lib.Dec.{eqb}
 use Rattle.gf2.specs.Field.{_⊕_, xsum, same}
+use Rattle.gf2.specs.Answers.{variable, value}
 use Rattle.words.specs.Words.{bitOf, bitAt}
-use Rattle.tableau.specs.Layout.{maxVars, rowAt, knownAt, truthAt, recordAt}
+use Rattle.tableau.specs.Layout.{maxVars, coefWords, rowAt, knownAt, truthAt, recordAt}
 use Rattle.tableau.specs.Buffer.{Run, basicAt, parityAt, entryAt, Chain}
 
 unfoldable pub lacks : List ℕ → ℕ → ℕ → Bool
-lacks ws r i = bitAt ws (rowAt r) i ⊕ (bitAt ws (rowAt r) i && bitAt ws knownAt i)
+lacks ws r i = bitAt ws (rowAt r) i && not (bitAt ws knownAt i)
 
 abbrev pub Overlay : ℕ → List ℕ → ℕ → ℕ → Type 0
 Overlay k ws r x = (t : ℕ) → t < 64 → bitOf x (63 - t) ≡ true → (j : ℕ) × (j < k) × (lacks ws r (j * 64 + t) ≡ true)
@@ -60,12 +60,12 @@ pub record Entry (ws : List ℕ) (j : ℕ) : Type 0 where
   pub high : entryAt ws j < 2 * maxVars + 2
 
 abbrev pub EntrySet : ℕ → List ℕ → List ℕ → Type 0
-EntrySet j ws w = ((w ≡ ws) × (Entry ws j → ⊥)) ⊎ (Entry ws j × Put (entryAt ws j / 2 - 1) (eqb (entryAt ws j % 2) 0) ws w)
+EntrySet j ws w = ((w ≡ ws) × (Entry ws j → ⊥)) ⊎ (Entry ws j × Put (variable (entryAt ws j) - 1) (value (entryAt ws j)) ws w)
 
 pub record Restarted (k d : ℕ) (ws w : List ℕ) : Type 0 where
   pub empty : List ℕ
   pub begun : List ℕ
-  pub cleared : Run knownAt 16 (λ i. 0) ws empty
+  pub cleared : Run knownAt (2 * coefWords) (λ i. 0) ws empty
   pub set : Chain EntrySet d empty begun
   pub settled : Chain RowSettled k begun w
 

@@ -12,7 +12,7 @@ use tableau::load;
 use words::odd;
 use words::own;
 ghost use mathlib.Core.Path.{_≡_};
-ghost use Prim.Native.Nat.{_+_, _-_, _<_, _≤_};
+ghost use Prim.Native.Nat.{_+_, _*_, _-_, _<_, _≤_};
 ghost use lib.ListN.{length};
 ghost use Rattle.tableau.specs.Layout.{coefWords, maxVars, maxRows, maxTaken, knownAt, size};
 ghost use Rattle.tableau.specs.Buffer.{Run, Chain, Span};
@@ -134,7 +134,7 @@ pub fn settle(work: &mut [u64], k: usize)
 // No variable has a value.
 pub fn clear_values(work: &mut [u64])
     requires { ⌜ size ≤ length (now work) ⌝ }
-    ensures { λ _. ⌜ Run knownAt 16 (λ i. 0) (now (work .entry)) (now (work .exit)) ⌝ }
+    ensures { λ _. ⌜ Run knownAt (2 * coefWords) (λ i. 0) (now (work .entry)) (now (work .exit)) ⌝ }
 {
     let mut j = 0;
     while j < 16 {
@@ -182,7 +182,7 @@ pub fn restart(work: &mut [u64], k: usize, d: usize)
 // Each row from q to below e, 64 at most, that has the variable v gives its basic variable a value, if it does.
 pub fn follow_block(work: &mut [u64], q: usize, e: usize, v: usize)
     requires { ⌜ (size ≤ length (now work)) × (q < e) × (e ≤ q + 64) × (e ≤ maxRows) × (0 < v) × (v ≤ maxVars) ⌝ }
-    ensures { λ _. ⌜ Span (RowFollowed (v - 1)) q e (now (work .entry)) (now (work .exit)) ⌝ }
+    ensures { λ _. ⌜ Span (RowFollowed (v - 1)) q (e - q) (now (work .entry)) (now (work .exit)) ⌝ }
 {
     let mut rest = column(work, q, e, v);
     while rest != 0 {

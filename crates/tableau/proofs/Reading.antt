@@ -11,9 +11,9 @@ use mathlib.Core.Bool.{Bool}
 use Prim.Native.Nat.{ℕ, zero, suc, _+_, _*_, _-_, _/_, _%_, _<_, _≤_}
 use native.Mathlib.Omega.{arith}
 use lib.ListN.{getD}
-use lib.Dec.{eqb}
 use Rattle.gf2.specs.Field.{_⊕_}
 use Rattle.gf2.specs.Rows.{Row}
+use Rattle.gf2.specs.Answers.{variable, value}
 use Rattle.words.specs.Words.{bitOf, digit, bitAt}
 use Rattle.words.proofs.Bits.{bit-same}
 use Rattle.tableau.specs.Layout.{maxVars, maxRows, rowAt, fromAt, lastAt, knownAt, recordAt}
@@ -41,7 +41,7 @@ unfolding entryAt
 entry-stay ws w h j = h (recordAt + j) (omega arith)
 
 pub lits-stay : (d : ℕ) (ws w : List ℕ) (x : ℕ → ℕ) (y : ℕ → Bool) → ((j : ℕ) → j < d → entryAt w j ≡ entryAt ws j) → LitsRead d ws x y → LitsRead d w x y
-lits-stay d ws w x y h lr = record { var = λ j l. ap (λ (z : ℕ). z / 2) (h j l) ∙ lr .var j l; val = λ j l. ap (λ (z : ℕ). eqb (z % 2) 0) (h j l) ∙ lr .val j l }
+lits-stay d ws w x y h lr = record { var = λ j l. ap variable (h j l) ∙ lr .var j l; val = λ j l. ap value (h j l) ∙ lr .val j l }
 
 pub prov-bit : (ws : List ℕ) (a j : ℕ) → bitAt ws (a + 8) j ≡ bitAt ws a (maxVars + j)
 unfolding bitAt

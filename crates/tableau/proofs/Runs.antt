@@ -2,7 +2,9 @@
 --   run-none, run-more      nothing written yet; one word more
 --   run-reads               words copied to the front of a list; reads-at: from an equal place
 --   reads-bit, reads-sum    their bits, and the sum of the bits that two such lists share
---   chain-more, chain-two   one step more, and two; chain-idle: steps that change nothing
+--   chain-more, chain-idle  one step more; steps that change nothing
+--   chain-span              a chain of a steps, then a span of j steps from a on, is a chain of a + j steps
+--   span-two, span-idle     two steps; a span goes on over steps that change nothing
 -- Assumes nothing.
 use mathlib.Core.Path.{_≡_, refl, sym, ap, ap₂, _∙_}
 use mathlib.Core.List.{List}
@@ -19,7 +21,7 @@ use Rattle.gf2.proofs.Sums.{sum-cong}
 use Rattle.linear.proofs.Exchange.{at-or-not}
 use Rattle.words.specs.Words.{bitAt}
 use Rattle.words.proofs.Bits.{bit-same}
-use Rattle.tableau.specs.Buffer.{Run, Reads, Chain}
+use Rattle.tableau.specs.Buffer.{Run, Reads, Chain, Span}
 
 pub run-none : (off : ℕ) (want : ℕ → ℕ) (ws : List ℕ) → Run off 0 want ws ws
 run-none off want ws = record { len = refl; done = λ i l. absurd (not-suc-le-zero l); rest = λ i h. refl }
@@ -52,9 +54,19 @@ reads-sum k a b ws x y f g = sum-cong (k * 64) _ _ (λ i l. ap₂ _&&_ (reads-bi
 pub chain-more : (Step : ℕ → List ℕ → List ℕ → Type 0) (r : ℕ) (ws v w : List ℕ) → length v ≡ length ws → Chain Step r ws v → Step r v w → Chain Step (r + 1) ws w
 chain-more Step r ws v w e h s = rw (add-one r) (v, e, h, s)
 
-pub chain-two : (Step : ℕ → List ℕ → List ℕ → Type 0) (r : ℕ) (ws u v w : List ℕ) → length u ≡ length ws → length v ≡ length ws → Chain Step r ws u → Step r u v → Step (r + 1) v w → Chain Step (r + 2) ws w
-chain-two Step r ws u v w eu ev h s t = let e : r + 2 ≡ r + 1 + 1 = omega arith in rw e (chain-more Step (r + 1) ws v w ev (chain-more Step r ws u v eu h s) t)
-
 pub chain-idle : (Step : ℕ → List ℕ → List ℕ → Type 0) (k : ℕ) (ws : List ℕ) → ((r : ℕ) → r < k → Step r ws ws) → Chain Step k ws ws
 chain-idle Step zero ws h = refl
 chain-idle Step (suc k) ws h = (ws, refl, chain-idle Step k ws (λ r l. h r (omega arith)), h k (omega arith))
+
+pub chain-span : (Step : ℕ → List ℕ → List ℕ → Type 0) (a j : ℕ) (zs ws w : List ℕ) → length ws ≡ length zs → Chain Step a zs ws → Span Step a j ws w → Chain Step (a + j) zs w
+chain-span Step a zero zs ws w e c s = let n : a + 0 ≡ a = omega arith in rw n (rw s c)
+chain-span Step a (suc j) zs ws w e c (v, f, s, t) = let n : a + suc j ≡ suc (a + j) = omega arith in rw n (v, f ∙ e, chain-span Step a j zs ws v e c s, t)
+
+pub span-two : (Step : ℕ → List ℕ → List ℕ → Type 0) (a : ℕ) (ws v w : List ℕ) → length v ≡ length ws → Step a ws v → Step (a + 1) v w → Span Step a 2 ws w
+span-two Step a ws v w e s t = let n : a + 0 ≡ a = omega arith in (v, e, (ws, refl, refl, rw n s), t)
+
+pub span-idle : (Step : ℕ → List ℕ → List ℕ → Type 0) (a j n : ℕ) (ws w : List ℕ) → length w ≡ length ws → ((r : ℕ) → a + j ≤ r → r < a + j + n → Step r w w) → Span Step a j ws w → Span Step a (j + n) ws w
+span-idle Step a j zero ws w e h s = let m : j + 0 ≡ j = omega arith in rw m s
+span-idle Step a j (suc n) ws w e h s =
+    let m : j + suc n ≡ suc (j + n) = omega arith in
+    rw m (w, e, span-idle Step a j n ws w e (λ r f g. h r f (omega arith)) s, h (a + (j + n)) (omega arith) (omega arith))

@@ -5,7 +5,7 @@
 --   entryAt                 an entry of the record; Recorded: one has been set
 --   Added f t ws w          row f has been added into row t, which keeps its basic variable
 --   Column ws q e p x       which rows from q to below e have variable p + 1: a digit of x each, the top one for row q
---   Chain Step k ws w       the steps 0 .. k - 1 one after another; Span Step a b: the steps a .. b - 1, as a chain goes on
+--   Chain Step k ws w       the steps 0 .. k - 1 one after another; Span Step a j ws w: the j steps from a on
 -- Assumes nothing.
 use mathlib.Core.Path.{_≡_}
 use mathlib.Core.List.{List}
@@ -55,4 +55,5 @@ Chain Step zero ws w = w ≡ ws
 Chain Step (suc k) ws w = (v : List ℕ) × (length v ≡ length ws) × Chain Step k ws v × Step k v w
 
 abbrev pub Span : (ℕ → List ℕ → List ℕ → Type 0) → ℕ → ℕ → List ℕ → List ℕ → Type 0
-Span Step a b ws w = (z : List ℕ) → length ws ≡ length z → Chain Step a z ws → Chain Step b z w
+Span Step a zero ws w = w ≡ ws
+Span Step a (suc j) ws w = (v : List ℕ) × (length v ≡ length ws) × Span Step a j ws v × Step (a + j) v w

@@ -9,10 +9,10 @@
 use mathlib.Core.Path.{_≡_}
 use mathlib.Core.List.{List}
 use mathlib.Core.Bool.{Bool, true, false}
-use Prim.Native.Nat.{ℕ, zero, suc, _/_, _%_, _<_, _≤_}
+use Prim.Native.Nat.{ℕ, zero, suc, _<_, _≤_}
 use lib.ListN.{length}
-use lib.Dec.{eqb}
 use Rattle.gf2.specs.Rows.{Row}
+use Rattle.gf2.specs.Answers.{variable, value}
 use Rattle.linear.specs.State.{Built, Made}
 use Rattle.words.specs.Words.{bitAt}
 use Rattle.tableau.specs.Layout.{maxVars, maxRows, rowAt, fromAt, knownAt, truthAt, size}
@@ -35,8 +35,8 @@ pub record ValuesRead (ws : List ℕ) (known truth : ℕ → Bool) : Type 0 wher
   pub within : (i : ℕ) → i < maxVars → truth (suc i) ≡ true → known (suc i) ≡ true
 
 pub record LitsRead (d : ℕ) (ws : List ℕ) (x : ℕ → ℕ) (y : ℕ → Bool) : Type 0 where
-  pub var : (j : ℕ) → j < d → entryAt ws j / 2 ≡ x j
-  pub val : (j : ℕ) → j < d → eqb (entryAt ws j % 2) 0 ≡ y j
+  pub var : (j : ℕ) → j < d → variable (entryAt ws j) ≡ x j
+  pub val : (j : ℕ) → j < d → value (entryAt ws j) ≡ y j
 
 pub record MadeAt (ws : List ℕ) (n m : ℕ) (Sheet : ℕ → Row) (kept : ℕ → Bool) (d : ℕ) (x : ℕ → ℕ) (y : ℕ → Bool) (k : ℕ) : Type 0 where
   pub R : ℕ → Row

@@ -2,7 +2,7 @@
 use words::sum;
 use words::sum_from;
 ghost use mathlib.Core.Path.{_≡_};
-ghost use Prim.Native.Nat.{_+_, _*_, _-_, _<_, _≤_};
+ghost use Prim.Native.Nat.{_+_, _*_, _-_, _<_, _≤_, min};
 ghost use lib.ListN.{length, getD};
 ghost use Rattle.tableau.specs.Layout.{coefWords, fromWords, maxVars, maxRows, maxTaken, rowAt, fromAt, knownAt, truthAt, size};
 ghost use Rattle.tableau.specs.Buffer.{Run, Reads, Added, entryAt, Recorded, Column};
@@ -129,7 +129,7 @@ pub fn copy_truth(work: &[u64]) -> [u64; 8]
 // Where the rows from q on end that are taken together: 64 at most, and below k.
 pub fn block_end(q: usize, k: usize) -> usize
     requires { ⌜ (q < k) × (k ≤ maxRows) ⌝ }
-    ensures { λ e. ⌜ (q < e) × (e ≤ k) × (e ≤ q + 64) ⌝ }
+    ensures { λ e. ⌜ e ≡ min k (q + 64) ⌝ }
 {
     if k - q < 64 { k } else { q + 64 }
 }

@@ -9,6 +9,7 @@ use borrow.Author.Needs.{needs}
 use Rattle.words.proofs.Bits.{bit-same}
 use Rattle.tableau.specs.Layout.{rowAt}
 use Rattle.tableau.specs.Buffer.{Chain}
+use Rattle.tableau.proofs.Runs.{chain-span}
 use Rattle.exchange.specs.Steps.{RowTurned}
 use Rattle.exchange.proofs.Passes.{pivot-stays}
 use Rattle.exchange.proofs.turn.Statement.{statement}
@@ -34,11 +35,10 @@ turn-block-requires : tie.Need-turn-block-requires Inv-loop μ-loop
 turn-block-requires c κs = let s = c .before .before .before .before .before .before .before .before .before in
     let a = s .args in
     let l = c .before .before .before .loop in
-    let g = c .before .block-end .ensures in
     let f = c .before .before .before .before .before .before .put in (
       search needs,
-      g .0,
-      g .2,
+      omega arith,
+      omega arith,
       omega arith,
       omega arith,
       omega arith,
@@ -53,8 +53,10 @@ loop-less c = search needs
 
 loop-again : tie.Need-loop-again Inv-loop μ-loop
 loop-again c = let l = c .before .before .before .before .before .before .loop in
+    let b = c .before .before .before .before .block-end in
     let t = c .before .before .turn-block in
-    (l .inv .0, c .before .before .before .before .block-end .ensures .1, t .ensures _ (l .inv .3) (l .inv .2), t .kept .0 ∙ l .inv .3)
+    let n : l .a + (b .result - l .a) ≡ b .result = omega arith in
+    (l .inv .0, omega arith, rw n at (chain-span (RowTurned _ _) (l .a) (b .result - l .a) _ _ _ (l .inv .3) (l .inv .2) (t .ensures)), t .kept .0 ∙ l .inv .3)
 
 same-length : tie.Need-same-length Inv-loop μ-loop
 same-length c = search needs

@@ -5,7 +5,7 @@ use mathlib.Core.Logic.{inl, inr}
 use mathlib.Core.Path.{_≡_, refl, sym, _∙_}
 use Prim.Native.Nat.{_-_}
 use borrow.Author.Needs.{needs}
-use Rattle.tableau.proofs.Runs.{chain-two}
+use Rattle.tableau.proofs.Runs.{span-two}
 use Rattle.exchange.specs.Steps.{RowCleared}
 use Rattle.opening.proofs.clear_two.Statement.{statement}
 use Rattle.opening.proofs.clear_two.Tie as tie
@@ -32,7 +32,7 @@ same-length c = search needs
 returns : tie.Need-returns
 returns c = let a = c .before .before .before .before .before .before .before .before .before .before .before .before .args in
     let f = c .before .before .before .before .before .before .clear-row in
-    λ z e h. chain-two (RowCleared (a .k) (a .v - 1)) (a .r) z _ _ _ e (f .kept .0 ∙ e) h (f .ensures) (c .before .before .clear-row2 .ensures)
+    span-two (RowCleared (a .k) (a .v - 1)) (a .r) _ _ _ (f .kept .0) (f .ensures) (c .before .before .clear-row2 .ensures)
 
 same-length-2 : tie.Need-same-length-2
 same-length-2 c = search needs
@@ -40,7 +40,7 @@ same-length-2 c = search needs
 returns-2 : tie.Need-returns-2
 returns-2 c = let a = c .before .before .before .before .args in
     let f = or-none _ _ (sym (c .before .in-two .ensures) ∙ c .if1 .left) in
-    λ z e h. chain-two (RowCleared (a .k) (a .v - 1)) (a .r) z _ _ _ e e h (inl (refl, inr (f .0))) (inl (refl, inr (f .1)))
+    span-two (RowCleared (a .k) (a .v - 1)) (a .r) _ _ _ refl (inl (refl, inr (f .0))) (inl (refl, inr (f .1)))
 
 pub clear-two-spec : {M : Type 1} → statement M
 clear-two-spec =

@@ -6,6 +6,7 @@ use native.Mathlib.Omega.{arith}
 use lib.ListN.{length}
 use borrow.Author.Needs.{needs}
 use Rattle.tableau.specs.Buffer.{Chain}
+use Rattle.tableau.proofs.Runs.{chain-span}
 use Rattle.exchange.specs.Steps.{RowCleared}
 use Rattle.opening.proofs.clear_twos.Statement.{statement}
 use Rattle.opening.proofs.clear_twos.Tie as tie
@@ -31,7 +32,7 @@ loop-less c = search needs
 loop-again : tie.Need-loop-again Inv-loop μ-loop
 loop-again c = let l = c .before .before .before .before .before .loop in
     let s = c .before .before .clear-two in
-    (omega arith, omega arith, s .ensures _ (l .inv .3) (l .inv .2), s .kept .0 ∙ l .inv .3)
+    (omega arith, omega arith, chain-span (RowCleared _ _) (l .q) 2 _ _ _ (l .inv .3) (l .inv .2) (s .ensures), s .kept .0 ∙ l .inv .3)
 
 same-length : tie.Need-same-length Inv-loop μ-loop
 same-length c = search needs

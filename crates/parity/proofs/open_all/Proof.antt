@@ -23,6 +23,9 @@ enum-known-x c = search needs
 list-known-requires : tie.Need-list-known-requires
 list-known-requires c κs = search needs
 
+opens-with-requires : tie.Need-opens-with-requires
+opens-with-requires c κs = search needs
+
 enum-known-x-2 : tie.Need-enum-known-x-2
 enum-known-x-2 c = search needs
 
@@ -38,6 +41,9 @@ list-rows-requires c κs = let xx = c .before .before .before in
     let q = st .low in
     (omega (arith, r, w), omega (arith, f, q, m), t .pre .1, t .pre .5)
 
+nothing-open-requires : tie.Need-nothing-open-requires
+nothing-open-requires c κs = search needs
+
 same-length : tie.Need-same-length
 same-length c = search needs
 
@@ -45,10 +51,10 @@ same-length-2 : tie.Need-same-length-2
 same-length-2 c = search needs
 
 returns : tie.Need-returns
-returns c = let lk = c .before .before in
+returns c = let lk = c .before .before .before in
     let xx = lk .before .before .before .before in
     let o = xx .before .before .before .before in
-    all-in _ (o .open-rows .last .0) (lk .list-known .result) _ (o .open-rows .kept .0) (rw (xx .x .given .1) at (o .open-rows .ensures)) (lk .list-known .ensures)
+    rw (c .opens-with .ensures) (all-in _ (o .open-rows .last .0) (lk .list-known .result) _ (o .open-rows .kept .0) (rw (xx .x .given .1) at (o .open-rows .ensures)) (lk .list-known .ensures))
 
 same-length-3 : tie.Need-same-length-3
 same-length-3 c = search needs
@@ -57,10 +63,10 @@ same-length-4 : tie.Need-same-length-4
 same-length-4 c = search needs
 
 returns-2 : tie.Need-returns-2
-returns-2 c = let lr = c .before .before in
+returns-2 c = let lr = c .before .before .before in
     let xx = lr .before .before .before .before in
     let o = xx .before .before .before .before in
-    stopped _ _ (o .open-rows .last .0) (lr .list-rows .result) _ (o .open-rows .kept .0) (rw (xx .x2 .given .1) at (o .open-rows .ensures)) (lr .list-rows .ensures)
+    rw (c .nothing-open .ensures) (stopped _ _ (o .open-rows .last .0) (lr .list-rows .result) _ (o .open-rows .kept .0) (rw (xx .x2 .given .1) at (o .open-rows .ensures)) (lr .list-rows .ensures))
 
 pub open-all-spec : {M : Type 1} → statement M
 open-all-spec =
@@ -71,8 +77,10 @@ open-all-spec =
     open-rows-requires
     enum-known-x
     list-known-requires
+    opens-with-requires
     enum-known-x-2
     list-rows-requires
+    nothing-open-requires
     same-length
     same-length-2
     returns

@@ -2,12 +2,12 @@
 -- Assumes nothing.
 use mathlib.Core.Logic.{inl}
 use mathlib.Core.Path.{_≡_, refl, _∙_}
-use Prim.Native.Nat.{_≤_, _-_}
+use Prim.Native.Nat.{_+_, _-_, _≤_}
 use native.Mathlib.Omega.{arith}
 use lib.ListN.{length}
 use borrow.Author.Needs.{needs}
 use Rattle.tableau.specs.Buffer.{Chain}
-use Rattle.tableau.proofs.Runs.{chain-idle}
+use Rattle.tableau.proofs.Runs.{chain-idle, chain-span}
 use Rattle.settle.specs.Values.{RowFollowed}
 use Rattle.settle.proofs.Putting.{without-stay}
 use Rattle.settle.proofs.follow.Statement.{statement}
@@ -38,9 +38,10 @@ loop-less c = search needs
 
 loop-again : tie.Need-loop-again Inv-loop μ-loop
 loop-again c = let l = c .before .before .before .before .before .before .loop in
-    let g = c .before .before .before .before .block-end .ensures in
+    let b = c .before .before .before .before .block-end in
     let f = c .before .before .follow-block in
-    (omega arith, g .1, f .ensures _ (l .inv .3) (l .inv .2), f .kept .0 ∙ l .inv .3)
+    let n : l .q + (b .result - l .q) ≡ b .result = omega arith in
+    (omega arith, omega arith, rw n at (chain-span (RowFollowed _) (l .q) (b .result - l .q) _ _ _ (l .inv .3) (l .inv .2) (f .ensures)), f .kept .0 ∙ l .inv .3)
 
 same-length : tie.Need-same-length Inv-loop μ-loop
 same-length c = search needs
