@@ -1,5 +1,5 @@
 -- WHAT A LITERAL DOES TO A STATE OF THE MODULE.
---   partner-high, beq-same, beq-other    facts that the code's tests give
+--   partner-high, beq-other              facts that the code's tests give
 --   refused-still                        a literal that is refused changes nothing
 --   known-bit, truth-bit                 the value of a variable, as it is read
 --   FreeAt                               a state of the module in which v has no value and is not basic
@@ -7,18 +7,20 @@
 -- Assumes nothing.
 use mathlib.Core.Path.{_≡_, refl, sym, ap, ap₂, _∙_}
 use mathlib.Core.List.{List}
-use mathlib.Core.Bool.{Bool, true, false, not, Bool·beq, _&&_, true≢false, false≢true}
-use mathlib.Core.Logic.{_⊎_, _≢_}
+use mathlib.Core.Bool.{Bool, true, false, not, Bool·beq, _&&_}
+use mathlib.Core.Logic.{_⊎_, inl, inr, _≢_}
 use Prim.Native.Nat.{ℕ, zero, suc, _+_, _-_, _/_, _<_, _≤_}
 use native.Mathlib.Omega.{arith}
 use lib.ListN.{length, getD}
 use Rattle.gf2.specs.Rows.{Var, Row}
 use Rattle.gf2.specs.Answers.{variable, value}
-use Rattle.gf2.proofs.Search.{and-both, not-true}
+use Rattle.gf2.proofs.Search.{and-both, not-true, beq-same}
 use Rattle.gf2.proofs.Sums.{same-refl, same-ne, bool-dec}
 use Rattle.linear.specs.State.{with-at, with-bool}
 use Rattle.linear.specs.Systems.{Implied, Conflict, And, Literals, NonBasic, pivot, repoint}
 use Rattle.linear.proofs.Assume.{clash}
+use Rattle.linear.proofs.Pigeons.{room}
+use Rattle.linear.proofs.Tableaux.{basic-dec}
 use Rattle.linear.proofs.Assuming.{given, conflicts, partner, passed, exchange-made, exchange-frees, taken-more}
 use Rattle.linear.proofs.Exchange.{at-or-not}
 use Rattle.words.specs.Words.{bitAt}
@@ -29,7 +31,7 @@ use Rattle.tableau.specs.View.{LitsRead, MadeAt}
 use Rattle.tableau.proofs.Reading.{entry-stay, lits-stay, bit-of}
 use Rattle.settle.specs.Values.{lacks, Followed}
 use Rattle.settle.proofs.Follows.{follow-made}
-use Rattle.exchange.specs.Steps.{Partner, Found, Exchanged, Took, followed, turned, stuck, Stepped, held, conflict, refused, taken, Outcome, was-held, was-conflict, was-taken}
+use Rattle.exchange.specs.Steps.{Partner, Found, Exchanged, Took, followed, turned, stuck, Stepped, held, conflict, full, refused, taken, Outcome, was-held, was-conflict, was-taken}
 use Rattle.exchange.proofs.Exchanges.{exchange-rows, exchange-rest}
 use Rattle.exchange.proofs.Finds.{found-none}
 use Rattle.exchange.proofs.Turns.{Apart, turned-apart}
@@ -39,20 +41,11 @@ partner-high ws r p zero q = omega arith
 partner-high ws r p (suc i) q = q .some i refl .0
 
 -- `==` of two bools
-pub beq-same : (a b : Bool) → Bool·beq a b ≡ true → a ≡ b
-beq-same true true h = refl
-beq-same true false h = sym h
-beq-same false true h = h
-beq-same false false h = refl
-
 pub beq-other : (a b : Bool) → Bool·beq a b ≡ false → a ≢ b
-beq-other true true h e = true≢false h
-beq-other true false h e = true≢false e
-beq-other false true h e = false≢true e
-beq-other false false h e = true≢false h
+beq-other a b h e = clash (Bool·beq a b) (beq-same a b e) h
 
-pub refused-still : (k d code : ℕ) (ws w : List ℕ) → bitAt ws knownAt (variable code - 1) ≡ false → Took k d code ws w false → Stepped k d code ws w 12
-refused-still k d code ws w e (stuck p l f q z) = rw z (refused e (stuck p l f q refl))
+pub refused-still : (k n d code : ℕ) (ws w : List ℕ) → bitAt ws knownAt (variable code - 1) ≡ false → Took k d code ws w false → Stepped k n d code ws w 12
+refused-still k n d code ws w e (stuck p l f q z) = rw z (refused e (stuck p l f q refl))
 
 -- ---- a variable without a value is made non-basic
 pub record FreeAt (ws : List ℕ) (n m : ℕ) (Sheet : ℕ → Row) (kept : ℕ → Bool) (d : ℕ) (x : ℕ → ℕ) (y : ℕ → Bool) (k v : ℕ) : Type 0 where
@@ -212,14 +205,29 @@ module _ (n m : ℕ) (Sheet : ℕ → Row) (kept : ℕ → Bool) (d : ℕ) (x : 
       let c = conflicts n m Sheet kept d x y k (s .R) (s .β) (s .S) (s .known) (s .truth) (s .made) (variable code) (value code) mv in
       (λ e f. g .0 (e, f), λ e f. c .0 (e, f), λ e i. clash _ (g .1 i .0) e, λ e i. clash _ (c .1 i .0) e)
 
-  pub step-made : (w : List ℕ) (ans : ℕ) → length w ≡ length ws → Stepped k d code ws w ans → Outcome n m Sheet kept d x y k (variable code) (value code) w ans
+  -- kept rows and taken literals are at most n: where n literals are taken, every variable has a value
+  never-full : s .known (variable code) ≡ false → n ≤ d → ⊥
+  never-full un f = go (basic-dec n k (s .R) (s .β) (s .made .built .tableau) (variable code))
+    where
+      go : ((r : ℕ) × (r < k) × (s .β r ≡ variable code)) ⊎ NonBasic k (s .β) (variable code) → ⊥
+      go (inl w) =
+          let l = w .1 in
+          let b = room n k (s .R) (s .β) d x (s .made .built .tableau) (s .made .taken) in
+          omega arith
+      go (inr w) =
+          let t = taken-more n m Sheet kept d x y k (s .R) (s .β) (s .S) (s .known) (s .truth) (s .made) (variable code) mv w un (with-at x d (variable code)) (at-below n m Sheet kept d x y k ws code) (at-here n m Sheet kept d x y k ws code) in
+          let b = room n k (s .R) (s .β) (suc d) (with-at x d (variable code)) (s .made .built .tableau) t in
+          omega arith
+
+  pub step-made : (w : List ℕ) (ans : ℕ) → length w ≡ length ws → Stepped k n d code ws w ans → Outcome n m Sheet kept d x y k (variable code) (value code) w ans
   step-made w ans len (held e f) = was-held (facts .0 (sym (known-bit n m Sheet kept d x y k ws s (variable code) mv) ∙ e) (sym (truth-bit n m Sheet kept d x y k ws s (variable code) mv) ∙ f)) s
   step-made w ans len (conflict e f) = was-conflict (facts .1 (sym (known-bit n m Sheet kept d x y k ws s (variable code) mv) ∙ e) (λ z. f (truth-bit n m Sheet kept d x y k ws s (variable code) mv ∙ z))) s
+  step-made w ans len (full e f) = absurd (never-full (sym (known-bit n m Sheet kept d x y k ws s (variable code) mv) ∙ e) f)
   step-made w ans len (refused e f) = absurd (none f)
     where
       none : Took k d code ws ws false → ⊥
       none (stuck p l f q z) = never-stuck n m Sheet kept d x y k ws s (variable code) mv (sym (known-bit n m Sheet kept d x y k ws s (variable code) mv) ∙ e) p l f q
-  step-made w ans len (taken w₁ e f) = was-taken (facts .2 un) (facts .3 un) (go f)
+  step-made w ans len (taken w₁ e l f) = was-taken (facts .2 un) (facts .3 un) (go f)
     where
       un : s .known (variable code) ≡ false
       un = sym (known-bit n m Sheet kept d x y k ws s (variable code) mv) ∙ e

@@ -9,7 +9,7 @@
 --   RowTurned p u r ws w     row p has been added to row r, if that has variable u, and row r has then been settled; row p itself has been pointed to u and settled
 --   Turned k p u q b ws w    variable q + 1 has been given the value b, and the rows below k have been turned, one after another
 --   Took k d code ws w x     a literal without a value: its variable was not basic, or has been exchanged, and it is taken (x true); or it cannot be (x false)
---   Stepped k d code ws w x  what a literal does, with the answer x: 0 held, 1 conflict, 2 taken, 12 refused
+--   Stepped k n d code ws w x   what a literal does at depth d of n, with the answer x: 0 held, 1 conflict, 2 taken, 12 refused, by its row or because n are taken
 --   Outcome                  the same for a state of the module: what the definitions give, and the state afterwards
 -- Assumes nothing.
 use mathlib.Core.Path.{_≡_}
@@ -73,11 +73,12 @@ pub data Took (k d code : ℕ) (ws w : List ℕ) : Bool → Type 0 where
   turned : (p u : ℕ) (v : List ℕ) → p < k → Found ws k (variable code) p → Partner ws p (variable code - 1) u → 0 < u → Recorded d code ws v → Turned k p u (variable code - 1) (value code) v w → Took k d code ws w true
   stuck : (p : ℕ) → p < k → Found ws k (variable code) p → Partner ws p (variable code - 1) 0 → w ≡ ws → Took k d code ws w false
 
-pub data Stepped (k d code : ℕ) (ws : List ℕ) : List ℕ → ℕ → Type 0 where
-  held : bitAt ws knownAt (variable code - 1) ≡ true → bitAt ws truthAt (variable code - 1) ≡ value code → Stepped k d code ws ws 0
-  conflict : bitAt ws knownAt (variable code - 1) ≡ true → bitAt ws truthAt (variable code - 1) ≢ value code → Stepped k d code ws ws 1
-  refused : bitAt ws knownAt (variable code - 1) ≡ false → Took k d code ws ws false → Stepped k d code ws ws 12
-  taken : (w : List ℕ) → bitAt ws knownAt (variable code - 1) ≡ false → Took k d code ws w true → Stepped k d code ws w 2
+pub data Stepped (k n d code : ℕ) (ws : List ℕ) : List ℕ → ℕ → Type 0 where
+  held : bitAt ws knownAt (variable code - 1) ≡ true → bitAt ws truthAt (variable code - 1) ≡ value code → Stepped k n d code ws ws 0
+  conflict : bitAt ws knownAt (variable code - 1) ≡ true → bitAt ws truthAt (variable code - 1) ≢ value code → Stepped k n d code ws ws 1
+  full : bitAt ws knownAt (variable code - 1) ≡ false → n ≤ d → Stepped k n d code ws ws 12
+  refused : bitAt ws knownAt (variable code - 1) ≡ false → Took k d code ws ws false → Stepped k n d code ws ws 12
+  taken : (w : List ℕ) → bitAt ws knownAt (variable code - 1) ≡ false → d < n → Took k d code ws w true → Stepped k n d code ws w 2
 
 pub data Outcome (n m : ℕ) (Sheet : ℕ → Row) (kept : ℕ → Bool) (d : ℕ) (x : ℕ → ℕ) (y : ℕ → Bool) (k v : ℕ) (b : Bool) (w : List ℕ) : ℕ → Type 0 where
   was-held : Implied n m Sheet (Literals d x y) v b → MadeAt w n m Sheet kept d x y k → Outcome n m Sheet kept d x y k v b w 0

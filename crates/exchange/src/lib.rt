@@ -156,10 +156,10 @@ pub fn take(work: &mut [u64], k: usize, d: usize, code: usize) -> bool
     true
 }
 
-// A literal is offered at depth d: 0 held, 1 conflict, 2 taken, 12 refused. All but 2 leave the buffer as it was.
-pub fn step(work: &mut [u64], k: usize, d: usize, code: usize) -> u64
-    requires { ⌜ (size ≤ length (now work)) × (k ≤ maxRows) × (d < maxTaken) × (2 ≤ code) × (code < 2 * maxVars + 2) ⌝ }
-    ensures { λ x. ⌜ Stepped k d code (now (work .entry)) (now (work .exit)) x ⌝ }
+// A literal is offered at depth d of n: 0 held, 1 conflict, 2 taken, 12 refused. All but 2 leave the buffer as it was. On a state of the module every variable has a value where n literals are taken.
+pub fn step(work: &mut [u64], k: usize, n: usize, d: usize, code: usize) -> u64
+    requires { ⌜ (size ≤ length (now work)) × (k ≤ maxRows) × (n ≤ maxTaken) × (2 ≤ code) × (code < 2 * maxVars + 2) ⌝ }
+    ensures { λ x. ⌜ Stepped k n d code (now (work .entry)) (now (work .exit)) x ⌝ }
 {
     let v = code / 2;
     if bit(work, KNOWN, v) {
@@ -167,6 +167,9 @@ pub fn step(work: &mut [u64], k: usize, d: usize, code: usize) -> u64
             return 0;
         }
         return 1;
+    }
+    if d >= n {
+        return 12;
     }
     if take(work, k, d, code) { 2 } else { 12 }
 }

@@ -1,11 +1,11 @@
--- ASSUME: what it answers, and what it leaves, case by case of what offering the literal did.
---   held-facts ..      what each answer of an offer says of the buffer
+-- ASSUME: what it answers, and what it leaves, case by case of what the step did.
+--   held-facts ..      what each answer of a step says of the buffer
 --   promise-refused    a check holds
---   promise-held, promise-conflict, promise-stuck, promise-taken   none does: the four answers of an offer
+--   promise-held, promise-conflict, promise-stuck, promise-taken   none does: the four answers of a step
 -- Assumes nothing.
 use mathlib.Core.Path.{_≡_, refl, sym, ap, _∙_, subst}
 use mathlib.Core.Bool.{Bool, true, false, not, _&&_, and-assoc}
-use mathlib.Core.Logic.{_⊎_, inl, inr, _≢_}
+use mathlib.Core.Logic.{_≢_}
 use mathlib.Core.List.{List, _++_}
 use lib.ListN.{length, take, drop, take-append-drop}
 use Prim.Native.Nat.{ℕ, zero, suc, _+_, _*_, _-_, _/_, _<_, _≤_}
@@ -32,50 +32,40 @@ use Rattle.exchange.proofs.Steps.{step-made}
 use Rattle.lists.specs.Listing.{isNew, ListPut}
 use Rattle.parity.specs.declared.Assuming.the-variants.{AssumeRefused, Held, Conflict, Taken}
 use Rattle.parity.specs.Promises.{Stands, AssumePromise}
-use Rattle.parity.specs.Offers.{Offered, below, full-held, full-conflict, full-refused}
 use Rattle.parity.proofs.Part.{front-bit, replaced-front, replaced-worked}
 use Rattle.lists.proofs.Picking.{listed-take}
 use Rattle.parity.proofs.Listing.{listed-used}
-use Rattle.parity.proofs.Offering.{offered-held, offered-conflict, offered-full, taken-answer, taken-stands}
+use Rattle.parity.proofs.Offering.{offered-held, offered-conflict, taken-answer, taken-stands}
 
--- ---- the answers of an offer
-module _ (n k d code : ℕ) (ws : List ℕ) where
-  pub held-facts : (w : List ℕ) (x : ℕ) → Offered n k d code ws w x → x ≡ 0 → (w ≡ ws) × (bitAt ws knownAt (variable code - 1) ≡ true) × (bitAt ws truthAt (variable code - 1) ≡ value code)
-  held-facts w x (below l (steps.held e f)) z = (refl, e, f)
-  held-facts w x (below l (steps.conflict e f)) z = absurd (omega arith)
-  held-facts w x (below l (steps.refused e f)) z = absurd (omega arith)
-  held-facts w x (below l (steps.taken a e f)) z = absurd (omega arith)
-  held-facts w x (full-held l e f) z = (refl, e, f)
-  held-facts w x (full-conflict l e f) z = absurd (omega arith)
-  held-facts w x (full-refused l e) z = absurd (omega arith)
+-- ---- the answers of a step
+module _ (k n d code : ℕ) (ws : List ℕ) where
+  pub held-facts : (w : List ℕ) (x : ℕ) → Stepped k n d code ws w x → x ≡ 0 → (w ≡ ws) × (bitAt ws knownAt (variable code - 1) ≡ true) × (bitAt ws truthAt (variable code - 1) ≡ value code)
+  held-facts w x (steps.held e f) z = (refl, e, f)
+  held-facts w x (steps.conflict e f) z = absurd (omega arith)
+  held-facts w x (steps.full e f) z = absurd (omega arith)
+  held-facts w x (steps.refused e f) z = absurd (omega arith)
+  held-facts w x (steps.taken a e l f) z = absurd (omega arith)
 
-  pub conflict-facts : (w : List ℕ) (x : ℕ) → Offered n k d code ws w x → x ≡ 1 → (w ≡ ws) × (bitAt ws knownAt (variable code - 1) ≡ true) × (bitAt ws truthAt (variable code - 1) ≢ value code)
-  conflict-facts w x (below l (steps.held e f)) z = absurd (omega arith)
-  conflict-facts w x (below l (steps.conflict e f)) z = (refl, e, f)
-  conflict-facts w x (below l (steps.refused e f)) z = absurd (omega arith)
-  conflict-facts w x (below l (steps.taken a e f)) z = absurd (omega arith)
-  conflict-facts w x (full-held l e f) z = absurd (omega arith)
-  conflict-facts w x (full-conflict l e f) z = (refl, e, f)
-  conflict-facts w x (full-refused l e) z = absurd (omega arith)
+  pub conflict-facts : (w : List ℕ) (x : ℕ) → Stepped k n d code ws w x → x ≡ 1 → (w ≡ ws) × (bitAt ws knownAt (variable code - 1) ≡ true) × (bitAt ws truthAt (variable code - 1) ≢ value code)
+  conflict-facts w x (steps.held e f) z = absurd (omega arith)
+  conflict-facts w x (steps.conflict e f) z = (refl, e, f)
+  conflict-facts w x (steps.full e f) z = absurd (omega arith)
+  conflict-facts w x (steps.refused e f) z = absurd (omega arith)
+  conflict-facts w x (steps.taken a e l f) z = absurd (omega arith)
 
-  pub taken-facts : (w : List ℕ) (x : ℕ) → Offered n k d code ws w x → x ≡ 2 → (d < n) × (bitAt ws knownAt (variable code - 1) ≡ false) × Stepped k d code ws w x
-  taken-facts w x (below l (steps.held e f)) z = absurd (omega arith)
-  taken-facts w x (below l (steps.conflict e f)) z = absurd (omega arith)
-  taken-facts w x (below l (steps.refused e f)) z = absurd (omega arith)
-  taken-facts w x (below l (steps.taken a e f)) z = (l, e, steps.taken a e f)
-  taken-facts w x (full-held l e f) z = absurd (omega arith)
-  taken-facts w x (full-conflict l e f) z = absurd (omega arith)
-  taken-facts w x (full-refused l e) z = absurd (omega arith)
+  pub taken-facts : (w : List ℕ) (x : ℕ) → Stepped k n d code ws w x → x ≡ 2 → (d < n) × (bitAt ws knownAt (variable code - 1) ≡ false)
+  taken-facts w x (steps.held e f) z = absurd (omega arith)
+  taken-facts w x (steps.conflict e f) z = absurd (omega arith)
+  taken-facts w x (steps.full e f) z = absurd (omega arith)
+  taken-facts w x (steps.refused e f) z = absurd (omega arith)
+  taken-facts w x (steps.taken a e l f) z = (l, e)
 
-  pub stuck-facts : (w : List ℕ) (x : ℕ) → Offered n k d code ws w x → x ≢ 0 → x ≢ 1 → x ≢ 2
-      → (w ≡ ws) × (((d < n) × Stepped k d code ws ws 12) ⊎ ((n ≤ d) × (bitAt ws knownAt (variable code - 1) ≡ false)))
-  stuck-facts w x (below l (steps.held e f)) a b c = absurd (a refl)
-  stuck-facts w x (below l (steps.conflict e f)) a b c = absurd (b refl)
-  stuck-facts w x (below l (steps.refused e f)) a b c = (refl, inl (l, steps.refused e f))
-  stuck-facts w x (below l (steps.taken p e f)) a b c = absurd (c refl)
-  stuck-facts w x (full-held l e f) a b c = absurd (a refl)
-  stuck-facts w x (full-conflict l e f) a b c = absurd (b refl)
-  stuck-facts w x (full-refused l e) a b c = (refl, inr (l, e))
+  pub stuck-facts : (w : List ℕ) (x : ℕ) → Stepped k n d code ws w x → x ≢ 0 → x ≢ 1 → x ≢ 2 → (w ≡ ws) × (x ≡ 12)
+  stuck-facts w x (steps.held e f) a b c = absurd (a refl)
+  stuck-facts w x (steps.conflict e f) a b c = absurd (b refl)
+  stuck-facts w x (steps.full e f) a b c = (refl, refl)
+  stuck-facts w x (steps.refused e f) a b c = (refl, refl)
+  stuck-facts w x (steps.taken p e l f) a b c = absurd (c refl)
 
 three : (a b c d e f : Bool) → a ≡ d → b ≡ e → c ≡ f → a && not b && not c ≡ d && (not e && not f)
 three a b c d e f p q r = rw (p, q, r) (and-assoc d (not e) (not f))
@@ -109,24 +99,24 @@ module _ (h : Header) (work literals : List ℕ) (code : ℕ) where
     not-refused : (c : ℕ) → refusal (assumeChecks h (length work) (length literals) code) ≡ suc c → ⊥
     not-refused c e = absurd (omega arith)
 
-    module _ (w : List ℕ) (x : ℕ) (o : Offered (h .n) (h .kept) (h .depth) code (take size work) w x) where
+    module _ (w : List ℕ) (x : ℕ) (o : Stepped (h .kept) (h .n) (h .depth) code (take size work) w x) where
       pub promise-held : x ≡ 0 → AssumePromise h work literals code h Held (w ++ drop size work) literals
       promise-held z =
-          let f = held-facts (h .n) (h .kept) (h .depth) code (take size work) w x o z in
+          let f = held-facts (h .kept) (h .n) (h .depth) code (take size work) w x o z in
           subst (λ (u : List ℕ). AssumePromise h work literals code h Held u literals) (sym (unchanged w (f .0)))
           (record { refused = λ c e. absurd (not-refused c e); leaves = λ q. (refl, refl, refl); right = λ q p s. record { said = held; says = refl; right = offered-held h work p s code low high (f .1) (f .2); stands = s } })
 
       pub promise-conflict : x ≡ 1 → AssumePromise h work literals code h (Conflict (code / 2)) (w ++ drop size work) literals
       promise-conflict z =
-          let f = conflict-facts (h .n) (h .kept) (h .depth) code (take size work) w x o z in
+          let f = conflict-facts (h .kept) (h .n) (h .depth) code (take size work) w x o z in
           subst (λ (u : List ℕ). AssumePromise h work literals code h (Conflict (code / 2)) u literals) (sym (unchanged w (f .0)))
           (record { refused = λ c e. absurd (not-refused c e); leaves = λ q. (refl, refl, refl, refl); right = λ q p s. record { said = conflict; says = refl; right = offered-conflict h work p s code low high (f .1) (f .2); stands = s } })
 
       pub promise-stuck : x ≢ 0 → x ≢ 1 → x ≢ 2 → AssumePromise h work literals code h (AssumeRefused 12) (w ++ drop size work) literals
       promise-stuck a b c =
-          let f = stuck-facts (h .n) (h .kept) (h .depth) code (take size work) w x o a b c in
+          let f = stuck-facts (h .kept) (h .n) (h .depth) code (take size work) w x o a b c in
           subst (λ (u : List ℕ). AssumePromise h work literals code h (AssumeRefused 12) u literals) (sym (unchanged w (f .0)))
-          (record { refused = λ d e. absurd (not-refused d e); leaves = λ q. (refl, refl, refl, refl); right = λ q p s. absurd (never p s (f .1)) })
+          (record { refused = λ d e. absurd (not-refused d e); leaves = λ q. (refl, refl, refl, refl); right = λ q p s. absurd (never p s) })
         where
           none : (p : Position) (s : Stands h work p) (a : ℕ)
               → Outcome (h .n) (h .m) (s .Sheet) (s .kept) (h .depth) (s .var) (s .val) (h .kept) (variable code) (value code) (take size work) a → a ≡ 12 → ⊥
@@ -134,12 +124,14 @@ module _ (h : Header) (work literals : List ℕ) (code : ℕ) where
           none p s a (was-conflict e f) z = absurd (omega arith)
           none p s a (was-taken e f g) z = absurd (omega arith)
 
-          never : (p : Position) (s : Stands h work p) → ((h .depth < h .n) × Stepped (h .kept) (h .depth) code (take size work) (take size work) 12) ⊎ ((h .n ≤ h .depth) × (bitAt (take size work) knownAt (variable code - 1) ≡ false)) → ⊥
-          never p s (inl g) =
-              none p s 12
+          never : (p : Position) (s : Stands h work p) → ⊥
+          never p s =
+              let f = stuck-facts (h .kept) (h .n) (h .depth) code (take size work) w x o a b c in
+              none p s x
+              (subst (λ (u : List ℕ). Outcome (h .n) (h .m) (s .Sheet) (s .kept) (h .depth) (s .var) (s .val) (h .kept) (variable code) (value code) u x) (f .0)
               (step-made (h .n) (h .m) (s .Sheet) (s .kept) (h .depth) (s .var) (s .val) (h .kept) (take size work) code (of-range (h .n) code low (let u = high in omega arith)) (s .made)
-              (take size work) 12 refl (g .1)) refl
-          never p s (inr g) = offered-full h work p s code low high (g .0) (g .1)
+              w x (ap length (f .0)) o))
+              (f .1)
 
       -- the literals listed are those that the definition asks for
       module _ (old : List ℕ) (reads : Reads 8 work knownAt old) (e : length w ≡ length (take size work)) (literals′ : List ℕ) (count : ℕ)
@@ -150,9 +142,8 @@ module _ (h : Header) (work literals : List ℕ) (code : ℕ) where
 
         made-after : (p : Position) (s : Stands h work p) → x ≡ 2 → MadeAt w (h .n) (h .m) (s .Sheet) (s .kept) (suc (h .depth)) (with-at (s .var) (h .depth) (variable code)) (with-bool (s .val) (h .depth) (value code)) (h .kept)
         made-after p s z =
-            let f = taken-facts (h .n) (h .kept) (h .depth) code (take size work) w x o z in
             pick (step-made (h .n) (h .m) (s .Sheet) (s .kept) (h .depth) (s .var) (s .val) (h .kept) (take size work) code (of-range (h .n) code low (let u = high in omega arith)) (s .made)
-            w x e (f .2)) z
+            w x e o) z
           where
             pick : {a : ℕ} → Outcome (h .n) (h .m) (s .Sheet) (s .kept) (h .depth) (s .var) (s .val) (h .kept) (variable code) (value code) w a → a ≡ 2
                 → MadeAt w (h .n) (h .m) (s .Sheet) (s .kept) (suc (h .depth)) (with-at (s .var) (h .depth) (variable code)) (with-bool (s .val) (h .depth) (value code)) (h .kept)
@@ -167,8 +158,8 @@ module _ (h : Header) (work literals : List ℕ) (code : ℕ) where
           right = λ q p s. record { said = implied (take count literals′); says = refl; right = answer p s; stands = taken-stands h work p s code low high w e room (facts .0) (made-after p s z) (facts .1) (take count literals′) (answer p s) };
         }
           where
-            facts : (h .depth < h .n) × (bitAt (take size work) knownAt (variable code - 1) ≡ false) × Stepped (h .kept) (h .depth) code (take size work) w x
-            facts = taken-facts (h .n) (h .kept) (h .depth) code (take size work) w x o z
+            facts : (h .depth < h .n) × (bitAt (take size work) knownAt (variable code - 1) ≡ false)
+            facts = taken-facts (h .kept) (h .n) (h .depth) code (take size work) w x o z
 
             fits : h .n ≤ length literals
             fits = assume-judged h (length work) (length literals) code j .2

@@ -1,12 +1,11 @@
 -- A LITERAL OFFERED to a state that the module made: what is read off the buffer is what the definitions answer.
 --   offered-held, offered-conflict   the variable has a value
---   offered-full                     where every depth is used up, every variable has one
 --   position-more                    the position with one literal more
 --   taken-answer, taken-stands       a literal is taken: the answer, and the state afterwards
 -- Assumes nothing.
 use mathlib.Core.Path.{_≡_, refl, sym, ap, ap₂, _∙_, subst}
 use mathlib.Core.Bool.{Bool, true, false, not, _&&_}
-use mathlib.Core.Logic.{_⊎_, inl, inr, _≢_}
+use mathlib.Core.Logic.{_≢_}
 use mathlib.Core.List.{List, [], _∷_, _++_}
 use lib.ListN.{length, take, drop}
 use Prim.Native.Nat.{ℕ, suc, _+_, _*_, _-_, _<_, _≤_}
@@ -22,12 +21,8 @@ use Rattle.gf2.proofs.Scans.{scanned-same}
 use Rattle.gf2.proofs.Values.{Values, free, answers-held, answers-conflict, new-listed}
 use Rattle.gf2.proofs.Reach.{assumed-reached}
 use Rattle.linear.specs.State.{with-at, with-bool}
-use Rattle.linear.specs.Systems.{NonBasic}
 use Rattle.linear.specs.Positions.{numbered, codesOf, position}
 use Rattle.linear.proofs.Joined.{codes-same, made-values, made-solution}
-use Rattle.linear.proofs.Assuming.{taken-more}
-use Rattle.linear.proofs.Pigeons.{room}
-use Rattle.linear.proofs.Tableaux.{basic-dec}
 use Rattle.judge.specs.declared.Header.{Header}
 use Rattle.judge.specs.Checks.{atDepth}
 use Rattle.words.specs.Words.{bitAt}
@@ -90,31 +85,6 @@ module _ (h : Header) (work : List ℕ) (p : Position) (s : Stands h work p) (l 
   offered-conflict e f =
       subst (λ (q : Position). AnswersAssume q l conflict) (sym (s .here))
       (answers-conflict here solution (s .made .known) (s .made .truth) values l mine (sym known-is ∙ e) (sym truth-is ∙ turned (bitAt front truthAt (variable l - 1)) (value l) f))
-
-  -- a variable without a value could be taken: kept rows and literals would be more than the variables
-  pub offered-full : h .n ≤ h .depth → bitAt front knownAt (variable l - 1) ≡ false → ⊥
-  unfolding with-at
-  offered-full full e = go (basic-dec (h .n) (h .kept) (s .made .R) (s .made .β) (s .made .made .built .tableau) (variable l))
-    where
-      unknown : s .made .known (variable l) ≡ false
-      unknown = sym known-is ∙ e
-
-      basic : h .kept + h .depth ≤ h .n
-      basic = room (h .n) (h .kept) (s .made .R) (s .made .β) (h .depth) (s .var) (s .made .made .built .tableau) (s .made .made .taken)
-
-      go : ((r : ℕ) × (r < h .kept) × (s .made .β r ≡ variable l)) ⊎ NonBasic (h .kept) (s .made .β) (variable l) → ⊥
-      go (inl w) = let a = w .1 in let b = basic in omega arith
-      go (inr w) =
-          let t = taken-more (h .n) (h .m) (s .Sheet) (s .kept) (h .depth) (s .var) (s .val) (h .kept) (s .made .R) (s .made .β) (s .made .S) (s .made .known) (s .made .truth) (s .made .made) (variable l) mine w unknown
-          (with-at (s .var) (h .depth) (variable l)) below last in
-          let b = room (h .n) (h .kept) (s .made .R) (s .made .β) (suc (h .depth)) (with-at (s .var) (h .depth) (variable l)) (s .made .made .built .tableau) t in
-          omega arith
-        where
-          below : (j : ℕ) → j < h .depth → with-at (s .var) (h .depth) (variable l) j ≡ s .var j
-          below j k = rw (same-ne j (h .depth) (λ (z : j ≡ h .depth). absurd (omega arith)))
-
-          last : with-at (s .var) (h .depth) (variable l) (h .depth) ≡ variable l
-          last = rw (same-refl (h .depth))
 
   -- ---- the literal is taken
   module _ (w : List ℕ) (e : length w ≡ length (take size work)) (long : size ≤ length work) (deep : h .depth < h .n)

@@ -3,14 +3,12 @@ use judge::Header;
 use sheet::Reading;
 use tableau::KNOWN;
 use tableau::SIZE;
-use tableau::TRUTH;
 use words::bit;
 ghost use mathlib.Core.Path.{_≡_};
 ghost use Prim.Native.Nat.{_+_, _*_, _<_, _≤_};
 ghost use Rattle.judge.specs.Checks.{atDepth};
 ghost use lib.ListN.{length};
 ghost use Rattle.tableau.specs.Layout.{maxVars, maxRows, maxTaken, size};
-ghost use Rattle.parity.specs.Offers.{Offered};
 ghost use Rattle.parity.specs.Openings.{openReading, RowsOpened};
 ghost use Rattle.parity.specs.Promises.{nothingOpen, opensWith, OpenPromise, AssumePromise, BackPromise, ExplainPromise};
 
@@ -33,24 +31,6 @@ pub enum Assuming {
 pub enum Explaining {
     ExplainRefused(u8),
     Explained(usize, usize),
-}
-
-// A literal is offered, with so many rows kept and so many literals taken: 0 held, 1 conflict, 2 taken, 12 refused.
-fn offer(work: &mut [u64], n: usize, kept: usize, depth: usize, code: usize) -> u64
-    requires { ⌜ (size ≤ length (now work)) × (n ≤ maxVars) × (kept ≤ maxRows) × (2 ≤ code) × (code ≤ 2 * n + 1) ⌝ }
-    ensures { λ x. ⌜ Offered n kept depth code (now (work .entry)) (now (work .exit)) x ⌝ }
-{
-    if depth < n {
-        return exchange::step(work, kept, depth, code);
-    }
-    let v = code / 2;
-    if !bit(work, KNOWN, v) {
-        return 12;
-    }
-    if bit(work, TRUTH, v) == (code % 2 == 0) {
-        return 0;
-    }
-    1
 }
 
 // What back hands back: 0 or the number of its refusal, and the header.
@@ -143,7 +123,7 @@ pub fn assume(h: Header, work: &mut [u64], literals: &mut [u64], code: usize) ->
     }
     let n = h.n;
     let old = tableau::copy_known(work);
-    let x = offer(&mut work[..SIZE], n, h.kept, h.depth, code);
+    let x = exchange::step(&mut work[..SIZE], h.kept, n, h.depth, code);
     match x {
         0 => AssumeOut {
             header: h,

@@ -30,17 +30,18 @@ returns c = let a = c .before .before .before .before .args in promise-refused (
 copy-known-requires : tie.Need-copy-known-requires
 copy-known-requires c κs = judged (c .before) .1
 
-slice-relend-prefix-offer : tie.Need-slice-relend-prefix-offer
-slice-relend-prefix-offer c = judged (c .before .before) .1
+slice-relend-prefix-step : tie.Need-slice-relend-prefix-step
+slice-relend-prefix-step c = judged (c .before .before) .1
 
-slice-aggregate-offer : tie.Need-slice-aggregate-offer
-slice-aggregate-offer c = let e = c .before .before .before in sym (front-long (e .before .before .before .before .args .work .now) (judged e .1))
+slice-aggregate-step : tie.Need-slice-aggregate-step
+slice-aggregate-step c = let e = c .before .before .before in sym (front-long (e .before .before .before .before .args .work .now) (judged e .1))
 
-offer-requires : tie.Need-offer-requires
-offer-requires c κs = let e = c .before .before .before in
+step-requires : tie.Need-step-requires
+step-requires c κs = let e = c .before .before .before in
     let j = judged e in
     let l = front-long (e .before .before .before .before .args .work .now) (j .1) in
-    (omega (arith, l), j .0 .vars, let a = j .0 .kept in let b = j .0 .rows in omega arith, j .3, j .4)
+    let n = j .0 .vars in
+    (omega (arith, l), let a = j .0 .kept in let b = j .0 .rows in omega arith, n, j .3, let h = j .4 in omega arith)
 
 slice-aggregate-list-new : tie.Need-slice-aggregate-list-new
 slice-aggregate-list-new c = search needs
@@ -50,7 +51,7 @@ list-new-requires c κs = let o = c .before .before .before .before .before .bef
     let e = o .before .before .before .before in
     let a = e .before .before .before .before .args in
     let j = judged e in
-    let r = replaced-worked (a .work .now) (o .offer .last .0) (j .1) (o .offer .kept .0) .long in
+    let r = replaced-worked (a .work .now) (o .step .last .0) (j .1) (o .step .kept .0) .long in
     let l = j .1 in
     (omega (arith, r, l), search needs, j .0 .vars, j .2)
 
@@ -60,7 +61,7 @@ deeper-requires c κs = let m = c .before .before .before .before .before .befor
     let e = o .before .before .before .before in
     let a = e .before .before .before .before .args in
     let j = judged e in
-    let f = taken-facts (a .h .n) (a .h .kept) (a .h .depth) (a .code) (take size (a .work .now)) (o .offer .last .0) (o .offer .result) (o .offer .ensures) (m .match .keys3) .0 in
+    let f = taken-facts (a .h .kept) (a .h .n) (a .h .depth) (a .code) (take size (a .work .now)) (o .step .last .0) (o .step .result) (o .step .ensures) (m .match .keys3) .0 in
     let v = j .0 .vars in
     omega (arith, f, v)
 
@@ -71,7 +72,7 @@ returns-2 : tie.Need-returns-2
 returns-2 c = let o = c .before .before .before in
     let e = o .before .before .before .before in
     let a = e .before .before .before .before .args in
-    promise-held (a .h) (a .work .now) (a .literals .now) (a .code) (passed e) (o .offer .last .0) (o .offer .result) (o .offer .ensures) (c .match .keys1)
+    promise-held (a .h) (a .work .now) (a .literals .now) (a .code) (passed e) (o .step .last .0) (o .step .result) (o .step .ensures) (c .match .keys1)
 
 same-length-2 : tie.Need-same-length-2
 same-length-2 c = search needs
@@ -80,7 +81,7 @@ returns-3 : tie.Need-returns-3
 returns-3 c = let o = c .before .before .before in
     let e = o .before .before .before .before in
     let a = e .before .before .before .before .args in
-    promise-conflict (a .h) (a .work .now) (a .literals .now) (a .code) (passed e) (o .offer .last .0) (o .offer .result) (o .offer .ensures) (c .match .keys2)
+    promise-conflict (a .h) (a .work .now) (a .literals .now) (a .code) (passed e) (o .step .last .0) (o .step .result) (o .step .ensures) (c .match .keys2)
 
 same-length-3 : tie.Need-same-length-3
 same-length-3 c = search needs
@@ -96,7 +97,7 @@ returns-4 c = let i = c .before .before .before in
     let a = e .before .before .before .before .args in
     let k = o .before .before in
     rw (c .deeper .ensures)
-    (promise-taken (a .h) (a .work .now) (a .literals .now) (a .code) (passed e) (o .offer .last .0) (o .offer .result) (o .offer .ensures) (k .copy-known .result) (k .copy-known .ensures) (o .offer .kept .0) (i .list-new .last .1 .1 .1 .1 .0)
+    (promise-taken (a .h) (a .work .now) (a .literals .now) (a .code) (passed e) (o .step .last .0) (o .step .result) (o .step .ensures) (k .copy-known .result) (k .copy-known .ensures) (o .step .kept .0) (i .list-new .last .1 .1 .1 .1 .0)
     (i .list-new .result) (i .list-new .ensures) (m .match .keys3))
 
 same-length-5 : tie.Need-same-length-5
@@ -106,7 +107,7 @@ returns-5 : tie.Need-returns-5
 returns-5 c = let o = c .before .before .before in
     let e = o .before .before .before .before in
     let a = e .before .before .before .before .args in
-    promise-stuck (a .h) (a .work .now) (a .literals .now) (a .code) (passed e) (o .offer .last .0) (o .offer .result) (o .offer .ensures) (c .match .rest .0 .0 .1) (c .match .rest .0 .1) (c .match .rest .1)
+    promise-stuck (a .h) (a .work .now) (a .literals .now) (a .code) (passed e) (o .step .last .0) (o .step .result) (o .step .ensures) (c .match .rest .0 .0 .1) (c .match .rest .0 .1) (c .match .rest .1)
 
 pub assume-spec : {M : Type 1} → statement M
 assume-spec =
@@ -115,9 +116,9 @@ assume-spec =
     judge-assume-requires
     returns
     copy-known-requires
-    slice-relend-prefix-offer
-    slice-aggregate-offer
-    offer-requires
+    slice-relend-prefix-step
+    slice-aggregate-step
+    step-requires
     slice-aggregate-list-new
     list-new-requires
     deeper-requires
