@@ -221,33 +221,56 @@ static size_t kinds_of(size_t m)
     return kinds < SAMPLES ? kinds : SAMPLES;
 }
 
-static timing time_system(family f, size_t n, size_t m)
+/* One round of a kind of system, whose samples are the same in every round; the order of the literals is not. */
+static void run_round(timing *t)
 {
-    timing t;
-    uint64_t seed = 99;
-    int i;
-    memset(&t, 0, sizeof t);
-    t.family = f;
-    t.n = n;
-    t.m = m;
-    end = samples + kinds_of(m);
-    for (i = 0; samples + i < end; i++)
-        make_sample(&samples[i], f, n, m, 1000000 * (uint64_t)i + 1000 * n + m);
+    double *us = t->us[t->rounds];
+    uint64_t seed = 99 + (uint64_t)t->rounds;
+    size_t i, kinds = kinds_of(t->m);
+    end = samples + kinds;
+    for (i = 0; i < kinds; i++)
+        make_sample(&samples[i], t->family, t->n, t->m, 1000000 * i + 1000 * t->n + t->m);
     check_all();
-    m4ri_start(n, m);
-    for (t.rounds = 0; t.rounds < rounds; t.rounds++) {
-        double *us = t.us[t.rounds];
-        us[READ] = take_turn(do_read);
-        us[WRITE] = take_turn(do_write);
-        us[DECODE] = take_turn(do_decode);
-        for (placement = 0; placement < PLACEMENTS; placement++)
-            keep_best(&us[PLAIN], take_turn(do_plain));
-        us[M4RI] = m4ri_there() ? take_turn(do_m4ri) : 0;
-        us[OPEN] = take_turn(do_open);
-        search(us, &seed);
-    }
+    m4ri_start(t->n, t->m);
+    us[READ] = take_turn(do_read);
+    us[WRITE] = take_turn(do_write);
+    us[DECODE] = take_turn(do_decode);
+    for (placement = 0; placement < PLACEMENTS; placement++)
+        keep_best(&us[PLAIN], take_turn(do_plain));
+    us[M4RI] = m4ri_there() ? take_turn(do_m4ri) : 0;
+    us[OPEN] = take_turn(do_open);
+    search(us, &seed);
     m4ri_end();
-    return t;
+    t->rounds++;
+}
+
+static void set_kind(timing *t, family f, size_t n, size_t m)
+{
+    t->family = f;
+    t->n = n;
+    t->m = m;
+}
+
+/* The rounds go over all kinds of systems, so that a slow spell of the machine does not fall on one of them. */
+static void run(results *r)
+{
+    static const size_t sizes[] = {64, 256, 512};
+    size_t i;
+    int round;
+    for (i = 0; i < SYSTEMS; i++)
+        set_kind(&r->systems[i], (family)(i / 3), sizes[i % 3], sizes[i % 3] / 2);
+    for (i = 0; i < STEPS; i++) {
+        set_kind(&r->by_n[i], DENSE, 64 * (i + 1), 32 * (i + 1));
+        set_kind(&r->by_m[i], DENSE, 512, 32 * (i + 1));
+    }
+    for (round = 0; round < rounds; round++) {
+        for (i = 0; i < SYSTEMS; i++)
+            run_round(&r->systems[i]);
+        for (i = 0; i < STEPS; i++) {
+            run_round(&r->by_n[i]);
+            run_round(&r->by_m[i]);
+        }
+    }
 }
 
 static void save(const char *name, void (*write)(FILE *, const results *), const results *r)
@@ -260,21 +283,14 @@ static void save(const char *name, void (*write)(FILE *, const results *), const
 
 int main(int argc, char **argv)
 {
-    static const size_t sizes[] = {64, 256, 512};
     static results r;
-    size_t i;
     if (argc > 1 && strcmp(argv[1], "--smoke") == 0) {
         rounds = 1;
         batch_us = 0;
         argc--;
         argv++;
     }
-    for (i = 0; i < SYSTEMS; i++)
-        r.systems[i] = time_system((family)(i / 3), sizes[i % 3], sizes[i % 3] / 2);
-    for (i = 0; i < STEPS; i++) {
-        r.by_n[i] = time_system(DENSE, 64 * (i + 1), 32 * (i + 1));
-        r.by_m[i] = time_system(DENSE, 512, 32 * (i + 1));
-    }
+    run(&r);
     write_report(stdout, &r);
     if (argc == 3) {
         save(argv[1], write_report, &r);
