@@ -64,9 +64,6 @@ pub either-second : (a b : Bool) → b ≡ true → (a || b) ≡ true
 either-second true b e = refl
 either-second false b e = e
 
-pub either-none : (a b : Bool) → a ≡ false → b ≡ false → (a || b) ≡ false
-either-none a b e f = rw (e, f)
-
 pub none-either : (a b : Bool) → (a || b) ≡ false → (a ≡ false) × (b ≡ false)
 none-either true b h = absurd (true≢false h)
 none-either false b h = (refl, h)

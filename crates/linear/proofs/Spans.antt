@@ -1,7 +1,6 @@
 -- SUMS OF SUMS; the rows that a tableau was built from have its solutions.
 --   span-..                        sums of spanned rows
 --   earlier-..                     selections of kept rows
---   kept-independent               kept rows are independent
 --   built-sat, implied-sheet       the same solutions, the same implied values
 --   pivot-span                     the rows before an exchange are sums of those after it
 -- Assumes nothing.
@@ -79,13 +78,6 @@ xor-some true b h = inl refl
 xor-some false b h = inr h
 
 -- ---- selections of kept rows
-pub earlier-xor : (kept : ℕ → Bool) (q : ℕ) (s t : ℕ → Bool) → Earlier kept q s → Earlier kept q t → Earlier kept q (λ j. s j ⊕ t j)
-earlier-xor kept q s t f g j e = go (xor-some (s j) (t j) e)
-  where
-    go : (s j ≡ true) ⊎ (t j ≡ true) → (j < q) × (kept j ≡ true)
-    go (inl h) = f j h
-    go (inr h) = g j h
-
 pub earlier-sum : (kept : ℕ → Bool) (q k : ℕ) (s : ℕ → Bool) (S : ℕ → ℕ → Bool) → ((r : ℕ) → r < k → Earlier kept q (S r)) → Earlier kept q (combine k s S)
 unfolding combine
 earlier-sum kept q k s S f j e = let w = sum-some k (λ r. s r && S r j) e in f (w .0) (w .1) j (and-right (s (w .0)) (S (w .0) j) (w .2))
@@ -120,9 +112,6 @@ module _ (n m : ℕ) (Sheet : ℕ → Row) (kept : ℕ → Bool) (kp : KeptPlace
       go : (s q ≡ true) ⊎ (s q ≡ false) → (Earlier kept q s → SameCoefs n (combine m s Sheet) (λ v. false) → (i : ℕ) → s i ≡ false) → s j ≡ false
       go (inl e) g = absurd (kp .chosen q l (f q e .1) (λ i. s i ⊕ same q i) (without e))
       go (inr e) g = g (earlier-less kept q s f e) z j
-
-  pub kept-independent : (s : ℕ → Bool) → Earlier kept m s → SameCoefs n (combine m s Sheet) (λ v. false) → (j : ℕ) → s j ≡ false
-  kept-independent = independent-below m (omega arith)
 
 -- ---- solutions
 module _ (n m : ℕ) (Sheet : ℕ → Row) (kept : ℕ → Bool) (k : ℕ) (R : ℕ → Row) (β : ℕ → ℕ) (S : ℕ → ℕ → Bool) where

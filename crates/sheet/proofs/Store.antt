@@ -1,7 +1,5 @@
 -- THE ROW STORE AFTER AN ACCEPTED READ, as constraints.
 --   store-read      its rows are the sheet's: row q, counted from 0, is the one that begins where q rows end
---   store-words     each of its words has 64 bits
---   store-parity    each ninth word is 0 or 1
 -- (That n and m are the sheet's own is `read-accepted`.)
 -- Assumes nothing.
 use mathlib.Core.Bool.{Bool, true, false}
@@ -11,14 +9,13 @@ use Prim.Native.Nat.{ℕ, zero, suc, _+_, _-_, _*_, _/_, _%_, _^_, _<_}
 use native.Mathlib.Nat.{add-zero, mod-lt, zero-lt-suc}
 use native.Mathlib.Omega.{arith}
 use lib.Dec.{eqb}
-use lib.ListN.{drop, length, take, getD, List·getD-append}
+use lib.ListN.{drop, length, take, getD}
 use lib.Seq.{getD-drop}
 use Rattle.format.proofs.Packed.{bit-packed}
-use Rattle.format.proofs.Rows.{length-storeWords, store-fits}
 use Rattle.format.proofs.Runs.{getD-take-past, getD-pad}
-use Rattle.format.proofs.Undo.{row-packed, row-parity, store-row, parity-lt}
+use Rattle.format.proofs.Undo.{row-packed, row-parity, store-row}
 use Rattle.format.specs.Bits.{odd, bitsOf, valueOf}
-use Rattle.format.specs.Sheet.{rowOf, rowWords, storeWords, packed, clean}
+use Rattle.format.specs.Sheet.{rowOf, rowWords, packed, clean}
 use Rattle.sheet.proofs.Reader.{read-accepted}
 use Rattle.sheet.specs.Reader.{Reads}
 use Rattle.words.specs.Store.{StoreRead}
@@ -85,11 +82,3 @@ module _ (s old store : List ℕ) (n m : ℕ) (p : Reads s old (Read n m) store)
       past : (bs : List Bool) (v : ℕ) → n < v → rowOf n bs v ≡ false
       past bs zero l = absurd (omega arith)
       past bs (suc i) l = getD-take-past n i bs false (omega arith)
-
-  pub store-words : (i : ℕ) → i < 9 * m → getD store i 0 < 2 ^ 64
-  store-words i h =
-      let bs : List Bool = drop 19 (bitsOf s) in
-      rw (ap (λ (ws : List ℕ). getD ws i 0) (p .store) ∙ List·getD-append (storeWords n m bs) (drop (9 * m) old) 0 i (omega (arith, length-storeWords n m bs))) (store-fits n m bs i)
-
-  pub store-parity : (q : ℕ) → q < m → getD store (9 * q + 8) 0 < 2
-  store-parity q h = rw (parity-is q h) (parity-lt n (drop (q * (n + 1)) (drop 19 (bitsOf s))) (row-is q h .0))

@@ -1,5 +1,4 @@
 -- LAWS OF THE WRITER'S PROMISE.
---   number-writing     the number of the answer is that of the first check that holds
 --   write-accepted     what n, m and a row store are that are written, and the size
 --   write-determined   two results that the promise allows are the same: bytes are below 256, so their bits tell them
 -- Assumes nothing.
@@ -19,9 +18,6 @@ use Rattle.sheet.specs.declared.Writing.the-variants.{Refused, Written}
 number-said : (k size : ℕ) → number (said k size) ≡ k
 number-said zero size = refl
 number-said (suc k) size = refl
-
-pub number-writing : (n m : ℕ) (ws : List ℕ) (room : ℕ) → number (writing n m ws room) ≡ refusal (writer n m ws room)
-number-writing n m ws room = number-said (refusal (writer n m ws room)) (sizeFor n m)
 
 said-written : (k x size : ℕ) → said k x ≡ Written size → (k ≡ 0) × (x ≡ size)
 said-written zero x size e = (refl, cc)

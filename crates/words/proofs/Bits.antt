@@ -2,7 +2,7 @@
 --   bit-xor, bit-and, bit-or        a bit of a word made by an operator
 --   zero-bits, bits-zero            a word is 0 when its bits are, and only then
 --   pow-bit, own-bit, own-lt        the words that have one bit alone
---   word-xor, length-xor, bits-sum  the sum of words, word by word and bit by bit
+--   word-xor, length-xor            the sum of words, word by word
 --   bit-in, bit-same, bit-added     a bit by its word and its place there; words read elsewhere
 --   bit-read, own-here, own-away    one bit as the code reads it, and as it makes it; either-read: one of two
 --   bit-front                       a bit of the words at the front of a list
@@ -161,10 +161,6 @@ bit-same ws w off o i e = ap (λ (x : ℕ). bitOf x (63 - i % 64)) e
 pub bit-added : (ws w : List ℕ) (off a b i : ℕ) → getD w (off + i / 64) 0 ≡ bitXor (getD ws (a + i / 64) 0) (getD ws (b + i / 64) 0) → bitAt w off i ≡ bitAt ws a i ⊕ bitAt ws b i
 unfolding bitAt
 bit-added ws w off a b i e = ap (λ (x : ℕ). bitOf x (63 - i % 64)) e ∙ bit-xor (getD ws (a + i / 64) 0) (getD ws (b + i / 64) 0) (63 - i % 64)
-
-pub bits-sum : (a b : List ℕ) (off i : ℕ) → bitAt (xorWords a b) off i ≡ bitAt a off i ⊕ bitAt b off i
-unfolding bitAt
-bits-sum a b off i = ap (λ (x : ℕ). bitOf x (63 - i % 64)) (word-xor a b (off + i / 64)) ∙ bit-xor (getD a (off + i / 64) 0) (getD b (off + i / 64) 0) (63 - i % 64)
 
 pub own-at : (w : List ℕ) (a q j : ℕ) → getD w (a + j / 64) 0 ≡ ownWord q (j / 64) → bitAt w a j ≡ same q j
 unfolding bitAt
