@@ -42,6 +42,8 @@
 extern "C" {
 #endif
 
+typedef char parity_needs_64_bits[sizeof(size_t) == 8 ? 1 : -1];
+
 /* ---- Sizes ------------------------------------------------------------------------------------------------
  * n variables and m rows, both numbered from 1. Buffers of the sizes below serve every sheet. */
 

@@ -10,22 +10,22 @@ use Rattle.format.specs.Refusals.{refusal}
 use Rattle.format.proofs.Refusing.{accepted, none-either}
 use Rattle.judge.specs.declared.Header.{Header}
 use Rattle.judge.specs.Checks.{Fit, assumeChecks, backChecks, explainChecks}
-use Rattle.judge.proofs.Closed.{closed-fit}
+use Rattle.judge.proofs.LineEleven.{not-unfit}
 
 pub back-judged : (h : Header) (words depth : ℕ) → refusal (backChecks h words depth) ≡ 0 → Fit h × (4096 ≤ words) × (depth ≤ h .depth)
 back-judged h words depth e =
     let a = accepted (backChecks h words depth) refl e in
-    (closed-fit h (a .0), ltb-false words 4096 (a .1 .0), ltb-false (h .depth) depth (a .1 .1 .0))
+    (not-unfit h (a .0), ltb-false words 4096 (a .1 .0), ltb-false (h .depth) depth (a .1 .1 .0))
 
 pub assume-judged : (h : Header) (words room code : ℕ) → refusal (assumeChecks h words room code) ≡ 0 → Fit h × (4096 ≤ words) × (h .n ≤ room) × (2 ≤ code) × (code ≤ 2 * h .n + 1)
 assume-judged h words room code e =
     let a = accepted (assumeChecks h words room code) refl e in
     let b = none-either (ltb code 2) (ltb (2 * h .n + 1) code) (a .1 .1 .1 .0) in
-    (closed-fit h (a .0), ltb-false words 4096 (a .1 .0), ltb-false room (h .n) (a .1 .1 .0), ltb-false code 2 (b .0), ltb-false (2 * h .n + 1) code (b .1))
+    (not-unfit h (a .0), ltb-false words 4096 (a .1 .0), ltb-false room (h .n) (a .1 .1 .0), ltb-false code 2 (b .0), ltb-false (2 * h .n + 1) code (b .1))
 
 pub explain-judged : (h : Header) (words codes numbers v : ℕ) → refusal (explainChecks h words codes numbers v) ≡ 0 → Fit h × (4096 ≤ words) × (h .n ≤ codes) × (h .m ≤ numbers) × Var (h .n) v
 explain-judged h words codes numbers v e =
     let a = accepted (explainChecks h words codes numbers v) refl e in
     let b = none-either (ltb codes (h .n)) (ltb numbers (h .m)) (a .1 .1 .0) in
     let c = none-either (ltb v 1) (ltb (h .n) v) (a .1 .1 .1 .0) in
-    (closed-fit h (a .0), ltb-false words 4096 (a .1 .0), ltb-false codes (h .n) (b .0), ltb-false numbers (h .m) (b .1), record { low = ltb-false v 1 (c .0); high = ltb-false (h .n) v (c .1) })
+    (not-unfit h (a .0), ltb-false words 4096 (a .1 .0), ltb-false codes (h .n) (b .0), ltb-false numbers (h .m) (b .1), record { low = ltb-false v 1 (c .0); high = ltb-false (h .n) v (c .1) })

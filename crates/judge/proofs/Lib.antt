@@ -1,2 +1,2 @@
-pub mod Closed
+pub mod LineEleven
 pub mod Judged

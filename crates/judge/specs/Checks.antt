@@ -1,5 +1,5 @@
 -- THE CHECKS OF THE CALLS ON AN OPEN STATE, in order (document 01, "Refusal numbers").
---   closed h                    line 11: the header is not open, or one of its numbers is past its bound
+--   unfit h                     line 11: the header is not open, or one of its numbers is past its bound
 --   Fit h                       it does not: the header is open and within its bounds
 --   assumeChecks, backChecks, explainChecks   the checks that are judged before a call looks into the working buffer
 --   atDepth h d                 the header with another depth: assume and back change nothing else of it
@@ -12,8 +12,8 @@ use lib.Dec.{eqb, ltb}
 use Rattle.format.specs.Refusals.{Check, check}
 use Rattle.judge.specs.declared.Header.{Header}
 
-abbrev pub closed : Header → Bool
-closed h = not (eqb (h .«open») 1) || (ltb 512 (h .n) || (ltb 256 (h .m) || (ltb (min (h .n) (h .m)) (h .kept) || ltb (h .n) (h .depth))))
+abbrev pub unfit : Header → Bool
+unfit h = not (eqb (h .«open») 1) || (ltb 512 (h .n) || (ltb 256 (h .m) || (ltb (min (h .n) (h .m)) (h .kept) || ltb (h .n) (h .depth))))
 
 pub record Fit (h : Header) : Type 0 where
   pub is-open : h .«open» ≡ 1
@@ -25,7 +25,7 @@ pub record Fit (h : Header) : Type 0 where
 -- with so many words of working buffer, room for so many literals, and a literal's code
 abbrev pub assumeChecks : Header → ℕ → ℕ → ℕ → List Check
 assumeChecks h words room code =
-    check 11 (closed h)
+    check 11 (unfit h)
     ∷ check 6 (ltb words 4096)
     ∷ check 7 (ltb room (h .n))
     ∷ check 8 (ltb code 2 || ltb (2 * h .n + 1) code)
@@ -33,7 +33,7 @@ assumeChecks h words room code =
 
 abbrev pub backChecks : Header → ℕ → ℕ → List Check
 backChecks h words depth =
-    check 11 (closed h)
+    check 11 (unfit h)
     ∷ check 6 (ltb words 4096)
     ∷ check 9 (ltb (h .depth) depth)
     ∷ []
@@ -41,7 +41,7 @@ backChecks h words depth =
 -- with room for so many codes of a clause and so many row numbers, and a variable
 abbrev pub explainChecks : Header → ℕ → ℕ → ℕ → ℕ → List Check
 explainChecks h words codes numbers v =
-    check 11 (closed h)
+    check 11 (unfit h)
     ∷ check 6 (ltb words 4096)
     ∷ check 7 (ltb codes (h .n) || ltb numbers (h .m))
     ∷ check 8 (ltb v 1 || ltb (h .n) v)

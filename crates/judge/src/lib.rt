@@ -1,7 +1,7 @@
 // The header of a state, and the refusals that a call gives before it looks into the working buffer.
 ghost use mathlib.Core.Path.{_≡_};
 ghost use Rattle.format.specs.Refusals.{refusal};
-ghost use Rattle.judge.specs.Checks.{closed, assumeChecks, backChecks, explainChecks};
+ghost use Rattle.judge.specs.Checks.{unfit, assumeChecks, backChecks, explainChecks};
 
 // A state is a header and a working buffer. It is open exactly if `open` is 1.
 #[repr(C)]
@@ -14,8 +14,8 @@ pub struct Header {
 }
 
 // Whether line 11 holds.
-pub fn unfit(h: Header) -> bool
-    ensures { λ r. ⌜ r ≡ closed h ⌝ }
+fn unfit(h: Header) -> bool
+    ensures { λ r. ⌜ r ≡ unfit h ⌝ }
 {
     if h.open != 1 {
         return true;

@@ -33,35 +33,10 @@ pub enum Explaining {
     Explained(usize, usize),
 }
 
-// What back hands back: 0 or the number of its refusal, and the header.
-pub struct BackOut {
-    pub number: u64,
+// What open hands back: the header, which is the earlier one where opening is refused, and the answer.
+pub struct OpenOut {
     pub header: Header,
-}
-
-// Back to a depth: the first taken literals are kept, and the values are made anew from them.
-pub fn back_core(h: Header, work: &mut [u64], depth: usize) -> BackOut
-    ensures { λ r. ⌜ BackPromise h (now (work .entry)) depth (r .number) (r .header) (now (work .exit)) ⌝ }
-{
-    let number = judge::judge_back(h, work.len(), depth);
-    if number != 0 {
-        return BackOut {
-            number: number as u64,
-            header: h,
-        };
-    }
-    let kept = h.kept;
-    settle::restart(&mut work[..SIZE], kept, depth);
-    BackOut {
-        number: 0,
-        header: Header {
-            open: h.open,
-            n: h.n,
-            m: h.m,
-            kept,
-            depth,
-        },
-    }
+    pub answer: Opening,
 }
 
 // What assume hands back: the header, one literal deeper where the literal was taken, and the answer.
@@ -70,18 +45,10 @@ pub struct AssumeOut {
     pub answer: Assuming,
 }
 
-// The header, one literal deeper.
-fn deeper(h: Header) -> Header
-    requires { ⌜ h .depth < maxTaken ⌝ }
-    ensures { λ r. ⌜ r ≡ atDepth h (h .depth + 1) ⌝ }
-{
-    Header {
-        open: h.open,
-        n: h.n,
-        m: h.m,
-        kept: h.kept,
-        depth: h.depth + 1,
-    }
+// What back hands back: 0 or the number of its refusal, and the header.
+pub struct BackOut {
+    pub number: u64,
+    pub header: Header,
 }
 
 // The header of an opening that is open, with so many rows kept.
@@ -110,74 +77,17 @@ fn nothing_open() -> Header
     }
 }
 
-// A literal is assumed.
-pub fn assume(h: Header, work: &mut [u64], literals: &mut [u64], code: usize) -> AssumeOut
-    ensures { λ r. ⌜ AssumePromise h (now (work .entry)) (now (literals .entry)) code (r .header) (r .answer) (now (work .exit)) (now (literals .exit)) ⌝ }
+// The header at another depth.
+fn at_depth(h: Header, depth: usize) -> Header
+    ensures { λ r. ⌜ r ≡ atDepth h depth ⌝ }
 {
-    let number = judge::judge_assume(h, work.len(), literals.len(), code);
-    if number != 0 {
-        return AssumeOut {
-            header: h,
-            answer: Assuming::AssumeRefused(number),
-        };
+    Header {
+        open: h.open,
+        n: h.n,
+        m: h.m,
+        kept: h.kept,
+        depth,
     }
-    let n = h.n;
-    let old = tableau::copy_known(work);
-    let x = exchange::step(&mut work[..SIZE], h.kept, n, h.depth, code);
-    match x {
-        0 => AssumeOut {
-            header: h,
-            answer: Assuming::Held,
-        },
-        1 => AssumeOut {
-            header: h,
-            answer: Assuming::Conflict(code / 2),
-        },
-        2 => {
-            let count = lists::list_new(work, &old, code / 2, n, literals);
-            AssumeOut {
-                header: deeper(h),
-                answer: Assuming::Taken(count),
-            }
-        }
-        _ => AssumeOut {
-            header: h,
-            answer: Assuming::AssumeRefused(12),
-        },
-    }
-}
-
-// The value of a variable is explained.
-pub fn explain(
-    h: Header,
-    work: &[u64],
-    clause: &mut [u64],
-    rows: &mut [u64],
-    v: usize,
-) -> Explaining
-    ensures { λ r. ⌜ ExplainPromise h (now (work .entry)) (now (clause .entry)) (now (rows .entry)) v r (now (clause .exit)) (now (rows .exit)) ⌝ }
-{
-    let number = judge::judge_explain(h, work.len(), clause.len(), rows.len(), v);
-    if number != 0 {
-        return Explaining::ExplainRefused(number);
-    }
-    let kept = h.kept;
-    if !bit(work, KNOWN, v) {
-        return Explaining::ExplainRefused(10);
-    }
-    let r = exchange::find(work, kept, v);
-    if r == kept {
-        return Explaining::ExplainRefused(10);
-    }
-    let codes = lists::list_clause(work, r, v, h.n, clause);
-    let numbers = lists::list_rows(work, r, h.m, rows);
-    Explaining::Explained(codes, numbers)
-}
-
-// What open hands back: the header, which is the earlier one where opening is refused, and the answer.
-pub struct OpenOut {
-    pub header: Header,
-    pub answer: Opening,
 }
 
 // The checks of open, in order.
@@ -255,4 +165,86 @@ pub fn open(
             open_all(n, m, store, work, literals, rows)
         }
     }
+}
+
+// A literal is assumed.
+pub fn assume(h: Header, work: &mut [u64], literals: &mut [u64], code: usize) -> AssumeOut
+    ensures { λ r. ⌜ AssumePromise h (now (work .entry)) (now (literals .entry)) code (r .header) (r .answer) (now (work .exit)) (now (literals .exit)) ⌝ }
+{
+    let number = judge::judge_assume(h, work.len(), literals.len(), code);
+    if number != 0 {
+        return AssumeOut {
+            header: h,
+            answer: Assuming::AssumeRefused(number),
+        };
+    }
+    let n = h.n;
+    let old = tableau::copy_known(work);
+    let x = exchange::step(&mut work[..SIZE], h.kept, n, h.depth, code);
+    match x {
+        0 => AssumeOut {
+            header: h,
+            answer: Assuming::Held,
+        },
+        1 => AssumeOut {
+            header: h,
+            answer: Assuming::Conflict(code / 2),
+        },
+        2 => {
+            let count = lists::list_new(work, &old, code / 2, n, literals);
+            AssumeOut {
+                header: at_depth(h, h.depth + 1),
+                answer: Assuming::Taken(count),
+            }
+        }
+        _ => AssumeOut {
+            header: h,
+            answer: Assuming::AssumeRefused(12),
+        },
+    }
+}
+
+// Back to a depth: the first taken literals are kept, and the values are made anew from them.
+pub fn back_core(h: Header, work: &mut [u64], depth: usize) -> BackOut
+    ensures { λ r. ⌜ BackPromise h (now (work .entry)) depth (r .number) (r .header) (now (work .exit)) ⌝ }
+{
+    let number = judge::judge_back(h, work.len(), depth);
+    if number != 0 {
+        return BackOut {
+            number: number as u64,
+            header: h,
+        };
+    }
+    settle::restart(&mut work[..SIZE], h.kept, depth);
+    BackOut {
+        number: 0,
+        header: at_depth(h, depth),
+    }
+}
+
+// The value of a variable is explained.
+pub fn explain(
+    h: Header,
+    work: &[u64],
+    clause: &mut [u64],
+    rows: &mut [u64],
+    v: usize,
+) -> Explaining
+    ensures { λ r. ⌜ ExplainPromise h (now (work .entry)) (now (clause .entry)) (now (rows .entry)) v r (now (clause .exit)) (now (rows .exit)) ⌝ }
+{
+    let number = judge::judge_explain(h, work.len(), clause.len(), rows.len(), v);
+    if number != 0 {
+        return Explaining::ExplainRefused(number);
+    }
+    let kept = h.kept;
+    if !bit(work, KNOWN, v) {
+        return Explaining::ExplainRefused(10);
+    }
+    let r = exchange::find(work, kept, v);
+    if r == kept {
+        return Explaining::ExplainRefused(10);
+    }
+    let codes = lists::list_clause(work, r, v, h.n, clause);
+    let numbers = lists::list_rows(work, r, h.m, rows);
+    Explaining::Explained(codes, numbers)
 }

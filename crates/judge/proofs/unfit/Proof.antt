@@ -1,6 +1,6 @@
 -- `judge::unfit` meets its contract.
 -- Assumes nothing.
-use Rattle.judge.proofs.Closed.{not-open, past-n, past-m, past-kept, by-depth}
+use Rattle.judge.proofs.LineEleven.{not-open, past-n, past-m, past-kept, by-depth}
 use native.Mathlib.Omega.{arith}
 use Rattle.judge.proofs.unfit.Statement.{statement}
 use Rattle.judge.proofs.unfit.Tie as tie

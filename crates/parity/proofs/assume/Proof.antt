@@ -55,8 +55,8 @@ list-new-requires c κs = let o = c .before .before .before .before .before .bef
     let l = j .1 in
     (omega (arith, r, l), search needs, j .0 .vars, j .2)
 
-deeper-requires : tie.Need-deeper-requires
-deeper-requires c κs = let m = c .before .before .before .before .before .before in
+add-at-depth : tie.Need-add-at-depth
+add-at-depth c = let m = c .before .before .before .before .before .before .before in
     let o = m .before .before .before in
     let e = o .before .before .before .before in
     let a = e .before .before .before .before .args in
@@ -64,6 +64,9 @@ deeper-requires c κs = let m = c .before .before .before .before .before .befor
     let f = taken-facts (a .h .kept) (a .h .n) (a .h .depth) (a .code) (take size (a .work .now)) (o .step .last .0) (o .step .result) (o .step .ensures) (m .match .keys3) .0 in
     let v = j .0 .vars in
     omega (arith, f, v)
+
+at-depth-requires : tie.Need-at-depth-requires
+at-depth-requires c κs = search needs
 
 same-length : tie.Need-same-length
 same-length c = search needs
@@ -90,13 +93,13 @@ same-length-4 : tie.Need-same-length-4
 same-length-4 c = search needs
 
 returns-4 : tie.Need-returns-4
-returns-4 c = let i = c .before .before .before in
+returns-4 c = let i = c .before .before .before .before in
     let m = i .before .before .before .before in
     let o = m .before .before .before in
     let e = o .before .before .before .before in
     let a = e .before .before .before .before .args in
     let k = o .before .before in
-    rw (c .deeper .ensures)
+    rw (c .at-depth .ensures)
     (promise-taken (a .h) (a .work .now) (a .literals .now) (a .code) (passed e) (o .step .last .0) (o .step .result) (o .step .ensures) (k .copy-known .result) (k .copy-known .ensures) (o .step .kept .0) (i .list-new .last .1 .1 .1 .1 .0)
     (i .list-new .result) (i .list-new .ensures) (m .match .keys3))
 
@@ -121,7 +124,8 @@ assume-spec =
     step-requires
     slice-aggregate-list-new
     list-new-requires
-    deeper-requires
+    add-at-depth
+    at-depth-requires
     same-length
     returns-2
     same-length-2

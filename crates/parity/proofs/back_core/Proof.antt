@@ -20,8 +20,8 @@ judged c = let a = c .before .before .before .args in back-judged (a .h) (length
 judge-back-requires : tie.Need-judge-back-requires
 judge-back-requires c κs = search needs
 
-cast-t8 : tie.Need-cast-t8
-cast-t8 c = search needs
+cast-t7 : tie.Need-cast-t7
+cast-t7 c = search needs
 
 returns : tie.Need-returns
 returns c = let a = c .before .before .before .args in record {
@@ -43,31 +43,36 @@ restart-requires c κs = let j = judged (c .before) in
     let l = front-long (c .before .before .before .before .args .work .now) (j .1) in
     (omega (arith, l), let a = f .kept in let b = f .rows in omega arith, let a = f .depth in let b = f .vars in let d = j .2 in omega arith)
 
+at-depth-requires : tie.Need-at-depth-requires
+at-depth-requires c κs = search needs
+
 same-length : tie.Need-same-length
 same-length c = search needs
 
 returns-2 : tie.Need-returns-2
-returns-2 c = let w = c .before .before .before .before in
+returns-2 c = let w = c .before .before .before .before .before in
     let a = w .before .before .before .args in
     let j = judged w in
-    let ws = c .before .before .restart .last .0 in
-    let e = c .before .before .restart .kept .0 in
-    record {
+    let r = c .before .before .before .restart in
+    let e = r .kept .0 in
+    rw (c .at-depth .ensures)
+    (record {
       answer = sym (sym (w .before .judge-back .ensures) ∙ w .if1 .left);
       refused = λ x e. absurd (omega arith);
-      done = λ z. (refl, replaced-worked (a .work .now) ws (j .1) e);
-      right = λ z p s. back-stands (a .h) (a .work .now) ws p s (j .1) e (a .depth) (j .2) (c .before .before .restart .ensures);
-    }
+      done = λ z. (refl, replaced-worked (a .work .now) (r .last .0) (j .1) e);
+      right = λ z p s. back-stands (a .h) (a .work .now) (r .last .0) p s (j .1) e (a .depth) (j .2) (r .ensures);
+    })
 
 pub back-core-spec : {M : Type 1} → statement M
 back-core-spec =
     tie.close
     (tie.spec
     judge-back-requires
-    cast-t8
+    cast-t7
     returns
     slice-relend-prefix-restart
     slice-aggregate-restart
     restart-requires
+    at-depth-requires
     same-length
     returns-2)

@@ -1,6 +1,6 @@
--- LINE 11, one condition after another: each that holds makes the header closed, and all must fail for it to be fit.
---   not-open, past-n, past-m, past-kept               the header is closed
---   by-depth, closed-fit                              the last condition decides; none holds: the header is fit
+-- LINE 11, one condition after another: each that holds makes the header unfit, and all must fail for it to be fit.
+--   not-open, past-n, past-m, past-kept   the header is unfit
+--   by-depth, not-unfit                   the last condition decides; none holds: the header is fit
 -- Assumes nothing.
 use mathlib.Core.Path.{_≡_, sym, ap}
 use mathlib.Core.Bool.{Bool, true, false, not, _||_}
@@ -9,31 +9,31 @@ use lib.Dec.{eqb, ltb}
 use borrow.Author.Tests.{lt-ltb, le-ltb, eq-eqb, ne-eqb, ltb-false, eqb-true, not-false}
 use Rattle.format.proofs.Refusing.{either-first, either-second, none-either}
 use Rattle.judge.specs.declared.Header.{Header}
-use Rattle.judge.specs.Checks.{closed, Fit}
+use Rattle.judge.specs.Checks.{unfit, Fit}
 
 module _ (h : Header) where
-  pub not-open : (h .«open» ≡ 1 → ⊥) → true ≡ closed h
+  pub not-open : (h .«open» ≡ 1 → ⊥) → true ≡ unfit h
   not-open ne = sym (either-first (not (eqb (h .«open») 1)) _ (ap not (ne-eqb (h .«open») 1 ne)))
 
   later : (b : Bool) → b ≡ true → not (eqb (h .«open») 1) || b ≡ true
   later b e = either-second (not (eqb (h .«open») 1)) b e
 
-  pub past-n : 512 < h .n → true ≡ closed h
+  pub past-n : 512 < h .n → true ≡ unfit h
   past-n l = sym (later _ (either-first (ltb 512 (h .n)) _ (lt-ltb 512 (h .n) l)))
 
-  pub past-m : 256 < h .m → true ≡ closed h
+  pub past-m : 256 < h .m → true ≡ unfit h
   past-m l = sym (later _ (either-second (ltb 512 (h .n)) _ (either-first (ltb 256 (h .m)) _ (lt-ltb 256 (h .m) l))))
 
-  pub past-kept : min (h .n) (h .m) < h .kept → true ≡ closed h
+  pub past-kept : min (h .n) (h .m) < h .kept → true ≡ unfit h
   past-kept l =
       sym (later _ (either-second (ltb 512 (h .n)) _ (either-second (ltb 256 (h .m)) _ (either-first (ltb (min (h .n) (h .m)) (h .kept)) _ (lt-ltb (min (h .n) (h .m)) (h .kept) l)))))
 
   -- all conditions but the last fail: the last decides
-  pub by-depth : h .«open» ≡ 1 → h .n ≤ 512 → h .m ≤ 256 → h .kept ≤ min (h .n) (h .m) → ltb (h .n) (h .depth) ≡ closed h
+  pub by-depth : h .«open» ≡ 1 → h .n ≤ 512 → h .m ≤ 256 → h .kept ≤ min (h .n) (h .m) → ltb (h .n) (h .depth) ≡ unfit h
   by-depth o n m k = rw (eq-eqb (h .«open») 1 o, le-ltb 512 (h .n) n, le-ltb 256 (h .m) m, le-ltb (min (h .n) (h .m)) (h .kept) k)
 
-pub closed-fit : (h : Header) → closed h ≡ false → Fit h
-closed-fit h e =
+pub not-unfit : (h : Header) → unfit h ≡ false → Fit h
+not-unfit h e =
     let a = none-either (not (eqb (h .«open») 1)) _ e in
     let b = none-either (ltb 512 (h .n)) _ (a .1) in
     let c = none-either (ltb 256 (h .m)) _ (b .1) in
