@@ -1,6 +1,6 @@
 -- WHAT A LITERAL DOES TO A STATE OF THE MODULE.
 --   partner-high, beq-other              facts that the code's tests give
---   refused-still                        a literal that is refused changes nothing
+--   stuck-still                          a literal that is stuck changes nothing
 --   known-bit, truth-bit                 the value of a variable, as it is read
 --   FreeAt                               a state of the module in which v has no value and is not basic
 --   step-made                            the answer to a literal is the definitions', and the state afterwards is one of the module
@@ -31,7 +31,9 @@ use Rattle.tableau.specs.View.{LitsRead, MadeAt}
 use Rattle.tableau.proofs.Reading.{entry-stay, lits-stay, bit-of}
 use Rattle.settle.specs.Values.{lacks, Followed}
 use Rattle.settle.proofs.Follows.{follow-made}
-use Rattle.exchange.specs.Steps.{Partner, Found, Exchanged, Took, followed, turned, stuck, Stepped, held, conflict, full, refused, taken, Outcome, was-held, was-conflict, was-taken}
+use Rattle.exchange.specs.declared.Offer.{Offer}
+use Rattle.exchange.specs.declared.Offer.the-variants as offer
+use Rattle.exchange.specs.Steps.{Partner, Found, Exchanged, Took, followed, turned, stuck, Stepped, Outcome}
 use Rattle.exchange.proofs.Exchanges.{exchange-rows, exchange-rest}
 use Rattle.exchange.proofs.Finds.{found-none}
 use Rattle.exchange.proofs.Turns.{Apart, turned-apart}
@@ -44,8 +46,8 @@ partner-high ws r p (suc i) q = q .some i refl .0
 pub beq-other : (a b : Bool) → Bool·beq a b ≡ false → a ≢ b
 beq-other a b h e = clash (Bool·beq a b) (beq-same a b e) h
 
-pub refused-still : (k n d code : ℕ) (ws w : List ℕ) → bitAt ws knownAt (variable code - 1) ≡ false → Took k d code ws w false → Stepped k n d code ws w 12
-refused-still k n d code ws w e (stuck p l f q z) = rw z (refused e (stuck p l f q refl))
+pub stuck-still : (k d code : ℕ) (ws w : List ℕ) → Took k d code ws w false → w ≡ ws
+stuck-still k d code ws w (stuck p l f q z) = z
 
 -- ---- a variable without a value is made non-basic
 pub record FreeAt (ws : List ℕ) (n m : ℕ) (Sheet : ℕ → Row) (kept : ℕ → Bool) (d : ℕ) (x : ℕ → ℕ) (y : ℕ → Bool) (k v : ℕ) : Type 0 where
@@ -219,15 +221,15 @@ module _ (n m : ℕ) (Sheet : ℕ → Row) (kept : ℕ → Bool) (d : ℕ) (x : 
           let b = room n k (s .R) (s .β) (suc d) (with-at x d (variable code)) (s .made .built .tableau) t in
           omega arith
 
-  pub step-made : (w : List ℕ) (ans : ℕ) → length w ≡ length ws → Stepped k n d code ws w ans → Outcome n m Sheet kept d x y k (variable code) (value code) w ans
-  step-made w ans len (held e f) = was-held (facts .0 (sym (known-bit n m Sheet kept d x y k ws s (variable code) mv) ∙ e) (sym (truth-bit n m Sheet kept d x y k ws s (variable code) mv) ∙ f)) s
-  step-made w ans len (conflict e f) = was-conflict (facts .1 (sym (known-bit n m Sheet kept d x y k ws s (variable code) mv) ∙ e) (λ z. f (truth-bit n m Sheet kept d x y k ws s (variable code) mv ∙ z))) s
-  step-made w ans len (full e f) = absurd (never-full (sym (known-bit n m Sheet kept d x y k ws s (variable code) mv) ∙ e) f)
-  step-made w ans len (refused e f) = absurd (none f)
-    where
-      none : Took k d code ws ws false → ⊥
-      none (stuck p l f q z) = never-stuck n m Sheet kept d x y k ws s (variable code) mv (sym (known-bit n m Sheet kept d x y k ws s (variable code) mv) ∙ e) p l f q
-  step-made w ans len (taken w₁ e l f) = was-taken (facts .2 un) (facts .3 un) (go f)
+  pub step-made : (w : List ℕ) (ans : Offer) → length w ≡ length ws → Stepped k n d code ws w ans → Outcome n m Sheet kept d x y k (variable code) (value code) w ans
+  step-made w offer.Held len (z, e, f) =
+      (facts .0 (sym (known-bit n m Sheet kept d x y k ws s (variable code) mv) ∙ e) (sym (truth-bit n m Sheet kept d x y k ws s (variable code) mv) ∙ f), rw z s)
+  step-made w offer.Conflict len (z, e, f) =
+      (facts .1 (sym (known-bit n m Sheet kept d x y k ws s (variable code) mv) ∙ e) (λ g. f (truth-bit n m Sheet kept d x y k ws s (variable code) mv ∙ g)), rw z s)
+  step-made w offer.Stuck len (z, e, inl f) = never-full (sym (known-bit n m Sheet kept d x y k ws s (variable code) mv) ∙ e) f
+  step-made w offer.Stuck len (z, e, inr (stuck p l f q g)) =
+      never-stuck n m Sheet kept d x y k ws s (variable code) mv (sym (known-bit n m Sheet kept d x y k ws s (variable code) mv) ∙ e) p l f q
+  step-made w offer.Taken len (e, l, f) = (facts .2 un, facts .3 un, go f)
     where
       un : s .known (variable code) ≡ false
       un = sym (known-bit n m Sheet kept d x y k ws s (variable code) mv) ∙ e

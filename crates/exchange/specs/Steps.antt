@@ -9,8 +9,8 @@
 --   RowTurned p u r ws w     row p has been added to row r, if that has variable u, and row r has then been settled; row p itself has been pointed to u and settled
 --   Turned k p u q b ws w    variable q + 1 has been given the value b, and the rows below k have been turned, one after another
 --   Took k d code ws w x     a literal without a value: its variable was not basic, or has been exchanged, and it is taken (x true); or it cannot be (x false)
---   Stepped k n d code ws w x   what a literal does at depth d of n, with the answer x: 0 held, 1 conflict, 2 taken, 12 refused, by its row or because n are taken
---   Outcome                  the same for a state of the module: what the definitions give, and the state afterwards
+--   Stepped k n d code ws w x   what a literal comes to at depth d of n; it is stuck by its row, or because n are taken
+--   Outcome                  the same for a state of the module: what the definitions give, and the state afterwards; nothing is stuck
 -- Assumes nothing.
 use mathlib.Core.Path.{_≡_}
 use mathlib.Core.List.{List}
@@ -26,6 +26,8 @@ use Rattle.words.specs.Words.{bitAt}
 use Rattle.tableau.specs.Layout.{maxVars, rowAt, lastAt, knownAt, truthAt}
 use Rattle.tableau.specs.Buffer.{basicAt, Added, Recorded, Chain}
 use Rattle.tableau.specs.View.{MadeAt}
+use Rattle.exchange.specs.declared.Offer.{Offer}
+use Rattle.exchange.specs.declared.Offer.the-variants as offer
 use Rattle.settle.specs.Values.{lacks, Put, RowSettled, Without, Followed}
 
 abbrev pub RowCleared : (p i : ℕ) → ℕ → List ℕ → List ℕ → Type 0
@@ -73,15 +75,15 @@ pub data Took (k d code : ℕ) (ws w : List ℕ) : Bool → Type 0 where
   turned : (p u : ℕ) (v : List ℕ) → p < k → Found ws k (variable code) p → Partner ws p (variable code - 1) u → 0 < u → Recorded d code ws v → Turned k p u (variable code - 1) (value code) v w → Took k d code ws w true
   stuck : (p : ℕ) → p < k → Found ws k (variable code) p → Partner ws p (variable code - 1) 0 → w ≡ ws → Took k d code ws w false
 
-pub data Stepped (k n d code : ℕ) (ws : List ℕ) : List ℕ → ℕ → Type 0 where
-  held : bitAt ws knownAt (variable code - 1) ≡ true → bitAt ws truthAt (variable code - 1) ≡ value code → Stepped k n d code ws ws 0
-  conflict : bitAt ws knownAt (variable code - 1) ≡ true → bitAt ws truthAt (variable code - 1) ≢ value code → Stepped k n d code ws ws 1
-  full : bitAt ws knownAt (variable code - 1) ≡ false → n ≤ d → Stepped k n d code ws ws 12
-  refused : bitAt ws knownAt (variable code - 1) ≡ false → Took k d code ws ws false → Stepped k n d code ws ws 12
-  taken : (w : List ℕ) → bitAt ws knownAt (variable code - 1) ≡ false → d < n → Took k d code ws w true → Stepped k n d code ws w 2
+abbrev pub Stepped : (k n d code : ℕ) → List ℕ → List ℕ → Offer → Type 0
+Stepped k n d code ws w offer.Held = (w ≡ ws) × (bitAt ws knownAt (variable code - 1) ≡ true) × (bitAt ws truthAt (variable code - 1) ≡ value code)
+Stepped k n d code ws w offer.Conflict = (w ≡ ws) × (bitAt ws knownAt (variable code - 1) ≡ true) × (bitAt ws truthAt (variable code - 1) ≢ value code)
+Stepped k n d code ws w offer.Taken = (bitAt ws knownAt (variable code - 1) ≡ false) × (d < n) × Took k d code ws w true
+Stepped k n d code ws w offer.Stuck = (w ≡ ws) × (bitAt ws knownAt (variable code - 1) ≡ false) × ((n ≤ d) ⊎ Took k d code ws w false)
 
-pub data Outcome (n m : ℕ) (Sheet : ℕ → Row) (kept : ℕ → Bool) (d : ℕ) (x : ℕ → ℕ) (y : ℕ → Bool) (k v : ℕ) (b : Bool) (w : List ℕ) : ℕ → Type 0 where
-  was-held : Implied n m Sheet (Literals d x y) v b → MadeAt w n m Sheet kept d x y k → Outcome n m Sheet kept d x y k v b w 0
-  was-conflict : Conflict n m Sheet (And (Literals d x y) v b) → MadeAt w n m Sheet kept d x y k → Outcome n m Sheet kept d x y k v b w 1
-  was-taken : (Implied n m Sheet (Literals d x y) v b → ⊥) → (Conflict n m Sheet (And (Literals d x y) v b) → ⊥) → MadeAt w n m Sheet kept (suc d) (with-at x d v) (with-bool y d b) k
-      → Outcome n m Sheet kept d x y k v b w 2
+abbrev pub Outcome : (n m : ℕ) → (ℕ → Row) → (ℕ → Bool) → (d : ℕ) → (ℕ → ℕ) → (ℕ → Bool) → (k v : ℕ) → Bool → List ℕ → Offer → Type 0
+Outcome n m Sheet kept d x y k v b w offer.Held = Implied n m Sheet (Literals d x y) v b × MadeAt w n m Sheet kept d x y k
+Outcome n m Sheet kept d x y k v b w offer.Conflict = Conflict n m Sheet (And (Literals d x y) v b) × MadeAt w n m Sheet kept d x y k
+Outcome n m Sheet kept d x y k v b w offer.Taken =
+    (Implied n m Sheet (Literals d x y) v b → ⊥) × (Conflict n m Sheet (And (Literals d x y) v b) → ⊥) × MadeAt w n m Sheet kept (suc d) (with-at x d v) (with-bool y d b) k
+Outcome n m Sheet kept d x y k v b w offer.Stuck = ⊥

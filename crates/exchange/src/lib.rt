@@ -156,20 +156,32 @@ pub fn take(work: &mut [u64], k: usize, d: usize, code: usize) -> bool
     true
 }
 
-// A literal is offered at depth d of n: 0 held, 1 conflict, 2 taken, 12 refused. All but 2 leave the buffer as it was. On a state of the module every variable has a value where n literals are taken.
-pub fn step(work: &mut [u64], k: usize, n: usize, d: usize, code: usize) -> u64
+// What a literal that is offered comes to: its variable has that value; it has the other; the literal is taken; it cannot be.
+pub enum Offer {
+    Held,
+    Conflict,
+    Taken,
+    Stuck,
+}
+
+// A literal is offered at depth d of n. The buffer is as it was unless the literal is taken. On a state of the module every variable has a value where n literals are taken, and no literal is stuck.
+pub fn step(work: &mut [u64], k: usize, n: usize, d: usize, code: usize) -> Offer
     requires { ⌜ (size ≤ length (now work)) × (k ≤ maxRows) × (n ≤ maxTaken) × (2 ≤ code) × (code < 2 * maxVars + 2) ⌝ }
     ensures { λ x. ⌜ Stepped k n d code (now (work .entry)) (now (work .exit)) x ⌝ }
 {
     let v = code / 2;
     if bit(work, KNOWN, v) {
         if bit(work, TRUTH, v) == (code % 2 == 0) {
-            return 0;
+            return Offer::Held;
         }
-        return 1;
+        return Offer::Conflict;
     }
     if d >= n {
-        return 12;
+        return Offer::Stuck;
     }
-    if take(work, k, d, code) { 2 } else { 12 }
+    if take(work, k, d, code) {
+        Offer::Taken
+    } else {
+        Offer::Stuck
+    }
 }

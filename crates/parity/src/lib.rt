@@ -1,4 +1,5 @@
 // The calls: open, assume, back and explain on a header by value and buffers that the caller lends.
+use exchange::Offer;
 use judge::Header;
 use sheet::Reading;
 use tableau::KNOWN;
@@ -182,22 +183,22 @@ pub fn assume(h: Header, work: &mut [u64], literals: &mut [u64], code: usize) ->
     let old = tableau::copy_known(work);
     let x = exchange::step(&mut work[..SIZE], h.kept, n, h.depth, code);
     match x {
-        0 => AssumeOut {
+        Offer::Held => AssumeOut {
             header: h,
             answer: Assuming::Held,
         },
-        1 => AssumeOut {
+        Offer::Conflict => AssumeOut {
             header: h,
             answer: Assuming::Conflict(code / 2),
         },
-        2 => {
+        Offer::Taken => {
             let count = lists::list_new(work, &old, code / 2, n, literals);
             AssumeOut {
                 header: at_depth(h, h.depth + 1),
                 answer: Assuming::Taken(count),
             }
         }
-        _ => AssumeOut {
+        Offer::Stuck => AssumeOut {
             header: h,
             answer: Assuming::AssumeRefused(12),
         },

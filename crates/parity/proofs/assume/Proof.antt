@@ -9,7 +9,7 @@ use Rattle.judge.specs.Checks.{Fit, assumeChecks}
 use Rattle.judge.proofs.Judged.{assume-judged}
 use Rattle.tableau.specs.Layout.{size}
 use Rattle.parity.proofs.Part.{front-long, replaced-worked}
-use Rattle.parity.proofs.Assumed.{taken-facts, promise-refused, promise-held, promise-conflict, promise-stuck, promise-taken}
+use Rattle.parity.proofs.Assumed.{promise-refused, promise-held, promise-conflict, promise-stuck, promise-taken}
 use borrow.Author.Needs.{needs}
 use Rattle.parity.proofs.assume.Statement.{statement}
 use Rattle.parity.proofs.assume.Tie as tie
@@ -43,11 +43,20 @@ step-requires c κs = let e = c .before .before .before in
     let n = j .0 .vars in
     (omega (arith, l), let a = j .0 .kept in let b = j .0 .rows in omega arith, n, j .3, let h = j .4 in omega arith)
 
+enum-told : tie.Need-enum-told
+enum-told c = search needs
+
+enum-told-2 : tie.Need-enum-told-2
+enum-told-2 c = search needs
+
+enum-told-3 : tie.Need-enum-told-3
+enum-told-3 c = search needs
+
 slice-aggregate-list-new : tie.Need-slice-aggregate-list-new
 slice-aggregate-list-new c = search needs
 
 list-new-requires : tie.Need-list-new-requires
-list-new-requires c κs = let o = c .before .before .before .before .before .before in
+list-new-requires c κs = let o = c .before .before .before .before .before .before .before in
     let e = o .before .before .before .before in
     let a = e .before .before .before .before .args in
     let j = judged e in
@@ -56,35 +65,36 @@ list-new-requires c κs = let o = c .before .before .before .before .before .bef
     (omega (arith, r, l), search needs, j .0 .vars, j .2)
 
 add-at-depth : tie.Need-add-at-depth
-add-at-depth c = let m = c .before .before .before .before .before .before .before in
-    let o = m .before .before .before in
+add-at-depth c = let t = c .before .before .before .before .before .before .before in
+    let o = t .before .before .before .before in
     let e = o .before .before .before .before in
-    let a = e .before .before .before .before .args in
-    let j = judged e in
-    let f = taken-facts (a .h .kept) (a .h .n) (a .h .depth) (a .code) (take size (a .work .now)) (o .step .last .0) (o .step .result) (o .step .ensures) (m .match .keys3) .0 in
-    let v = j .0 .vars in
-    omega (arith, f, v)
+    let f = rw (t .enum-told3 .given .1) at (o .step .ensures) in
+    let v = judged e .0 .vars in
+    omega (arith, f .1, v)
 
 at-depth-requires : tie.Need-at-depth-requires
 at-depth-requires c κs = search needs
+
+enum-told-4 : tie.Need-enum-told-4
+enum-told-4 c = search needs
 
 same-length : tie.Need-same-length
 same-length c = search needs
 
 returns-2 : tie.Need-returns-2
-returns-2 c = let o = c .before .before .before in
+returns-2 c = let o = c .before .before .before .before in
     let e = o .before .before .before .before in
     let a = e .before .before .before .before .args in
-    promise-held (a .h) (a .work .now) (a .literals .now) (a .code) (passed e) (o .step .last .0) (o .step .result) (o .step .ensures) (c .match .keys1)
+    promise-held (a .h) (a .work .now) (a .literals .now) (a .code) (passed e) (o .step .last .0) (rw (c .enum-told .given .1) at (o .step .ensures))
 
 same-length-2 : tie.Need-same-length-2
 same-length-2 c = search needs
 
 returns-3 : tie.Need-returns-3
-returns-3 c = let o = c .before .before .before in
+returns-3 c = let o = c .before .before .before .before in
     let e = o .before .before .before .before in
     let a = e .before .before .before .before .args in
-    promise-conflict (a .h) (a .work .now) (a .literals .now) (a .code) (passed e) (o .step .last .0) (o .step .result) (o .step .ensures) (c .match .keys2)
+    promise-conflict (a .h) (a .work .now) (a .literals .now) (a .code) (passed e) (o .step .last .0) (rw (c .enum-told2 .given .1) at (o .step .ensures))
 
 same-length-3 : tie.Need-same-length-3
 same-length-3 c = search needs
@@ -94,23 +104,23 @@ same-length-4 c = search needs
 
 returns-4 : tie.Need-returns-4
 returns-4 c = let i = c .before .before .before .before in
-    let m = i .before .before .before .before in
-    let o = m .before .before .before in
+    let t = i .before .before .before .before in
+    let o = t .before .before .before .before in
     let e = o .before .before .before .before in
     let a = e .before .before .before .before .args in
     let k = o .before .before in
     rw (c .at-depth .ensures)
-    (promise-taken (a .h) (a .work .now) (a .literals .now) (a .code) (passed e) (o .step .last .0) (o .step .result) (o .step .ensures) (k .copy-known .result) (k .copy-known .ensures) (o .step .kept .0) (i .list-new .last .1 .1 .1 .1 .0)
-    (i .list-new .result) (i .list-new .ensures) (m .match .keys3))
+    (promise-taken (a .h) (a .work .now) (a .literals .now) (a .code) (passed e) (o .step .last .0) (rw (t .enum-told3 .given .1) at (o .step .ensures)) (k .copy-known .result) (k .copy-known .ensures) (o .step .kept .0)
+    (i .list-new .last .1 .1 .1 .1 .0) (i .list-new .result) (i .list-new .ensures))
 
 same-length-5 : tie.Need-same-length-5
 same-length-5 c = search needs
 
 returns-5 : tie.Need-returns-5
-returns-5 c = let o = c .before .before .before in
+returns-5 c = let o = c .before .before .before .before in
     let e = o .before .before .before .before in
     let a = e .before .before .before .before .args in
-    promise-stuck (a .h) (a .work .now) (a .literals .now) (a .code) (passed e) (o .step .last .0) (o .step .result) (o .step .ensures) (c .match .rest .0 .0 .1) (c .match .rest .0 .1) (c .match .rest .1)
+    promise-stuck (a .h) (a .work .now) (a .literals .now) (a .code) (passed e) (o .step .last .0) (rw (c .enum-told4 .given .1) at (o .step .ensures))
 
 pub assume-spec : {M : Type 1} → statement M
 assume-spec =
@@ -122,10 +132,14 @@ assume-spec =
     slice-relend-prefix-step
     slice-aggregate-step
     step-requires
+    enum-told
+    enum-told-2
+    enum-told-3
     slice-aggregate-list-new
     list-new-requires
     add-at-depth
     at-depth-requires
+    enum-told-4
     same-length
     returns-2
     same-length-2
