@@ -3,8 +3,7 @@
 --   promise-held, promise-conflict, promise-stuck, promise-taken   none does: the four answers of a step
 -- Assumes nothing.
 use mathlib.Core.Path.{_≡_, refl, sym, ap, _∙_, subst}
-use mathlib.Core.Bool.{Bool, true, false, not, _&&_, and-assoc}
-use mathlib.Core.Logic.{_≢_}
+use mathlib.Core.Bool.{Bool, not, _&&_, and-assoc}
 use mathlib.Core.List.{List, _++_}
 use lib.ListN.{length, take, drop, take-append-drop}
 use Prim.Native.Nat.{ℕ, zero, suc, _+_, _*_, _-_, _/_, _<_, _≤_}

@@ -1,7 +1,7 @@
 -- `parity::assume` meets its contract.
 -- Assumes nothing.
 use mathlib.Core.Path.{_≡_, sym, _∙_}
-use lib.ListN.{length, take}
+use lib.ListN.{length}
 use Prim.Native.Nat.{_+_, _*_, _≤_}
 use native.Mathlib.Omega.{arith}
 use Rattle.format.specs.Refusals.{refusal}
