@@ -30,7 +30,10 @@ use Rattle.tableau.specs.Layout.{maxVars, maxRows, rowAt, fromAt, lastAt, size}
 use Rattle.tableau.specs.View.{RowsRead, BuiltAt}
 use Rattle.tableau.proofs.Reading.{bit-of, rows-below, prov-bit, digit-sum, basic-kept}
 use Rattle.exchange.proofs.Exchanges.{exchange-rows}
-use Rattle.opening.specs.Opened.{Loaded, Reduced, LowestAt, RowDone, nothing, contradiction, one-more, RowOutcome, skipped, failed, inserted}
+use Rattle.exchange.specs.Steps.{Exchanged}
+use Rattle.opening.specs.declared.RowCase.{RowCase}
+use Rattle.opening.specs.declared.RowCase.the-variants.{Redundant, Contradictory, Kept}
+use Rattle.opening.specs.Opened.{Loaded, Reduced, LowestAt, RowDone, RowOutcome}
 use Rattle.words.specs.Store.{StoreRead}
 
 -- row k of the buffer, which has no basic variable yet
@@ -154,29 +157,23 @@ module _ (n m : ℕ) (Sheet : ℕ → Row) (kept : ℕ → Bool) (kp : KeptPlace
   none-coefs w sl s zero mv = absurd (not-suc-le-zero (mv .low))
   none-coefs w sl s (suc i) mv = let h = mv .high in let l : i < maxVars = omega arith in sym (sl .coefs i l) ∙ s .none refl i l
 
-  pub open-step : (w : List ℕ) (ans : ℕ) → RowDone q k store ws w ans → RowOutcome n m Sheet kept q k w ans
-  open-step w ans (nothing a w₁ h c s e) =
-      let f = after a w h c in
-      skipped (record { R = b .R; β = b .β; S = b .S; rows = f .0; built = skip-built n m Sheet kept kp q lq k (b .R) (b .β) (b .S) (b .built) (none-coefs w (f .1) s) (sym (f .1 .parity) ∙ e) })
-  open-step w ans (contradiction a w₁ h c s e) =
-      let f = after a w h c in
-      failed (others n m Sheet kept kp q lq k (b .R) (b .β) (b .S) (b .built)) (fails n m Sheet kept kp q lq k (b .R) (b .β) (b .S) (b .built) (none-coefs w (f .1) s) (sym (f .1 .parity) ∙ e)) (f .1 .from)
-  open-step w ans (one-more a v w₁ u h c s pos len ex) = more (u - 1) (bit-of u pos)
+  -- a variable is left: it becomes basic in the new row
+  grown : (w a v : List ℕ) (u : ℕ) → Loaded q k store ws a → Chain (Reduced k) k a v → LowestAt v k u → 0 < u → length v ≡ length ws → Exchanged (k + 1) k u v w → BuiltAt w n m Sheet kept (suc q) (suc k)
+  grown w a v u h c s pos len ex = more (u - 1) (bit-of u pos)
     where
       f : RowsRead n k v (b .R) (b .β) (b .S) × Slot n k v left src
       f = after a v h c
 
-      more : (i : ℕ) → suc i ≡ u → RowOutcome n m Sheet kept q k w 2
+      more : (i : ℕ) → suc i ≡ u → BuiltAt w n m Sheet kept (suc q) (suc k)
       more i e =
-          inserted
-          (record {
+          record {
             R = pivot (extend (b .R) k left) k u;
             β = repoint (b .β) k u;
             S = passed (extend (b .S) k src) (extend (b .R) k left) k u;
             rows = rows-basic n (suc k) w _ _ _ _ twice
                 (exchange-rows n (suc k) v (extend (b .R) k left) (repoint (b .β) k 0) (extend (b .S) k src) k u (omega arith) (omega arith) pos upper (slot-rows n k v (b .R) (b .β) (b .S) left src (f .0) (f .1)) w (omega arith) (rw (add-one k) at ex));
             built = insert-built n m Sheet kept kp q lq k (b .R) (b .β) (b .S) (b .built) u mu eu;
-          })
+          }
         where
           upper : u ≤ maxVars
           upper = s .upto
@@ -196,3 +193,12 @@ module _ (n m : ℕ) (Sheet : ℕ → Row) (kept : ℕ → Bool) (kp : KeptPlace
           twice : (r : ℕ) → r < suc k → repoint (repoint (b .β) k 0) k u r ≡ repoint (b .β) k u r
           twice = at-or-not (suc k) k (λ r. repoint (repoint (b .β) k 0) k u r ≡ repoint (b .β) k u r) (repoint-at (repoint (b .β) k 0) k u ∙ sym (repoint-at (b .β) k u))
               (λ r l d. repoint-other (repoint (b .β) k 0) k u r d ∙ repoint-other (b .β) k 0 r d ∙ sym (repoint-other (b .β) k u r d))
+
+  pub open-step : (w : List ℕ) (ans : RowCase) → RowDone q k store ws w ans → RowOutcome n m Sheet kept q k w ans
+  open-step w Redundant (s, e) =
+      let f = after (s .begun) w (s .loaded) (s .reduced) in
+      record { R = b .R; β = b .β; S = b .S; rows = f .0; built = skip-built n m Sheet kept kp q lq k (b .R) (b .β) (b .S) (b .built) (none-coefs w (f .1) (s .empty)) (sym (f .1 .parity) ∙ e) }
+  open-step w Contradictory (s, e) =
+      let f = after (s .begun) w (s .loaded) (s .reduced) in
+      (others n m Sheet kept kp q lq k (b .R) (b .β) (b .S) (b .built), fails n m Sheet kept kp q lq k (b .R) (b .β) (b .S) (b .built) (none-coefs w (f .1) (s .empty)) (sym (f .1 .parity) ∙ e), f .1 .from)
+  open-step w Kept t = grown w (t .begun) (t .left) (t .u) (t .loaded) (t .reduced) (t .lowest) (t .some) (t .long) (t .moved)

@@ -4,19 +4,19 @@
 --   lowest-read    the lowest variable of a row, loaded and asked for
 --   none-left      a row that has no variable left
 -- Assumes nothing.
-use mathlib.Core.Path.{_≡_, refl, sym, ap, _∙_}
+use mathlib.Core.Path.{_≡_, sym, ap, _∙_}
 use mathlib.Core.List.{List}
 use mathlib.Core.Logic.{_⊎_, inl, inr}
-use Prim.Native.Nat.{ℕ, zero, suc, _+_, _*_, _%_, _<_, _≤_}
+use Prim.Native.Nat.{ℕ, _+_, _*_, _%_, _<_, _≤_}
 use native.Mathlib.Nat.{zero-add}
 use native.Mathlib.Omega.{arith}
 use lib.ListN.{length, getD, set}
 use lib.Seq.{getD-set-same, getD-set-other}
-use Rattle.words.specs.Words.{digit, bitAt, ownWord, Lowest}
+use Rattle.words.specs.Words.{bitAt, ownWord, Lowest}
 use Rattle.tableau.specs.Buffer.{Run, Reads, Chain}
 use Rattle.tableau.specs.Layout.{maxVars, maxRows, rowSize, rowAt, fromAt, lastAt, size}
 use Rattle.tableau.proofs.Runs.{reads-bit}
-use Rattle.opening.specs.Opened.{Loaded, Reduced, LowestAt, RowDone, nothing, contradiction}
+use Rattle.opening.specs.Opened.{Loaded, Reduced, LowestAt, Spent}
 
 pub load-done : (q k : ℕ) (store row ws a b : List ℕ) (x : ℕ) → size ≤ length ws → k < maxRows → Reads 8 store (9 * q) row → Run (rowAt k) 8 (λ j. getD row (0 + j) 0) ws a → Run (fromAt k) 4 (λ j. ownWord q j) a b → x ≡ getD store (9 * q + 8) 0 % 2
     → Loaded q k store ws (set b (lastAt k) x)
@@ -49,13 +49,5 @@ lowest-read ws row k x rd h =
     at : (i : ℕ) → i < maxVars → bitAt ws (rowAt k) i ≡ bitAt row 0 i
     at i l = sym (reads-bit 8 (rowAt k) ws row rd i l)
 
-pub none-left : (q k : ℕ) (store ws a w : List ℕ) (u : ℕ) → Loaded q k store ws a → Chain (Reduced k) k a w → LowestAt w k u → u ≡ 0 → RowDone q k store ws w (getD w (lastAt k) 0 % 2)
-none-left q k store ws a w u l c s e = go (getD w (lastAt k) 0 % 2) refl (omega arith)
-  where
-    s₀ : LowestAt w k 0
-    s₀ = rw e at s
-
-    go : (p : ℕ) → getD w (lastAt k) 0 % 2 ≡ p → p < 2 → RowDone q k store ws w p
-    go zero h g = nothing a w l c s₀ (ap digit h)
-    go (suc zero) h g = contradiction a w l c s₀ (ap digit h)
-    go (suc (suc p)) h g = absurd (omega arith)
+pub none-left : (q k : ℕ) (store ws a w : List ℕ) (u : ℕ) → Loaded q k store ws a → Chain (Reduced k) k a w → LowestAt w k u → u ≡ 0 → Spent q k store ws w
+none-left q k store ws a w u l c s e = record { begun = a; loaded = l; reduced = c; empty = rw e at s }

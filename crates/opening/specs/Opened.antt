@@ -3,7 +3,8 @@
 --   Basics k ws                  each row below k has a basic variable, one of 1 .. maxVars
 --   Reduced k r ws w             row r has been added into row k, if that has its basic variable
 --   LowestAt ws k x              x is the lowest variable of row k, or 0 where it has none
---   RowDone q k store ws w x     what row q does, with k rows kept so far: x is 0 nothing, 1 a contradiction, 2 one more row
+--   Spent, Entered               row q stands as row k and no variable is left in it; one was left, and is now basic there
+--   RowDone q k store ws w x     what row q comes to, with k rows kept so far
 --   RowOutcome                   the same for rows that say what the first q rows of the sheet say
 --   Opens store ws q k w         the first q rows have gone in, and k of them are kept
 --   AllIn, Stopped, Answered     the answer: all m rows are in and the values are made; or row q contradicts, and stands reduced as row k
@@ -23,6 +24,8 @@ use Rattle.tableau.specs.Buffer.{basicAt, parityAt, Added, Chain}
 use Rattle.tableau.specs.View.{BuiltAt}
 use Rattle.settle.specs.Values.{Restarted}
 use Rattle.exchange.specs.Steps.{Exchanged}
+use Rattle.opening.specs.declared.RowCase.{RowCase}
+use Rattle.opening.specs.declared.RowCase.the-variants.{Redundant, Contradictory, Kept}
 use Rattle.opening.specs.declared.Opening.{Opening}
 use Rattle.opening.specs.declared.Opening.the-variants.{Open, Unsat}
 
@@ -46,20 +49,37 @@ pub record LowestAt (ws : List ℕ) (k x : ℕ) : Type 0 where
   pub some : (i : ℕ) → x ≡ suc i → bitAt ws (rowAt k) i ≡ true
   pub under : (i : ℕ) → suc i < x → bitAt ws (rowAt k) i ≡ false
 
-pub data RowDone (q k : ℕ) (store ws : List ℕ) : List ℕ → ℕ → Type 0 where
-  nothing : (a w : List ℕ) → Loaded q k store ws a → Chain (Reduced k) k a w → LowestAt w k 0 → parityAt w k ≡ false → RowDone q k store ws w 0
-  contradiction : (a w : List ℕ) → Loaded q k store ws a → Chain (Reduced k) k a w → LowestAt w k 0 → parityAt w k ≡ true → RowDone q k store ws w 1
-  one-more : (a v w : List ℕ) (u : ℕ) → Loaded q k store ws a → Chain (Reduced k) k a v → LowestAt v k u → 0 < u → length v ≡ length ws → Exchanged (k + 1) k u v w → RowDone q k store ws w 2
+pub record Spent (q k : ℕ) (store ws w : List ℕ) : Type 0 where
+  pub begun : List ℕ
+  pub loaded : Loaded q k store ws begun
+  pub reduced : Chain (Reduced k) k begun w
+  pub empty : LowestAt w k 0
 
-pub data RowOutcome (n m : ℕ) (Sheet : ℕ → Row) (kept : ℕ → Bool) (q k : ℕ) (w : List ℕ) : ℕ → Type 0 where
-  skipped : BuiltAt w n m Sheet kept (suc q) k → RowOutcome n m Sheet kept q k w 0
-  failed : (s : ℕ → Bool) → Fails n m Sheet kept q s → ((j : ℕ) → j < maxRows → bitAt w (fromAt k) j ≡ same q j ⊕ s j) → RowOutcome n m Sheet kept q k w 1
-  inserted : BuiltAt w n m Sheet kept (suc q) (suc k) → RowOutcome n m Sheet kept q k w 2
+pub record Entered (q k : ℕ) (store ws w : List ℕ) : Type 0 where
+  pub begun : List ℕ
+  pub left : List ℕ
+  pub u : ℕ
+  pub loaded : Loaded q k store ws begun
+  pub reduced : Chain (Reduced k) k begun left
+  pub lowest : LowestAt left k u
+  pub some : 0 < u
+  pub long : length left ≡ length ws
+  pub moved : Exchanged (k + 1) k u left w
+
+abbrev pub RowDone : (q k : ℕ) → List ℕ → List ℕ → List ℕ → RowCase → Type 0
+RowDone q k store ws w Redundant = Spent q k store ws w × (parityAt w k ≡ false)
+RowDone q k store ws w Contradictory = Spent q k store ws w × (parityAt w k ≡ true)
+RowDone q k store ws w Kept = Entered q k store ws w
+
+abbrev pub RowOutcome : (n m : ℕ) → (ℕ → Row) → (ℕ → Bool) → (q k : ℕ) → List ℕ → RowCase → Type 0
+RowOutcome n m Sheet kept q k w Redundant = BuiltAt w n m Sheet kept (suc q) k
+RowOutcome n m Sheet kept q k w Contradictory = (s : ℕ → Bool) × Fails n m Sheet kept q s × ((j : ℕ) → j < maxRows → bitAt w (fromAt k) j ≡ same q j ⊕ s j)
+RowOutcome n m Sheet kept q k w Kept = BuiltAt w n m Sheet kept (suc q) (suc k)
 
 pub data Opens (store ws : List ℕ) : ℕ → ℕ → List ℕ → Type 0 where
   start : Opens store ws 0 0 ws
-  pass : (q k : ℕ) (v w : List ℕ) → Opens store ws q k v → length v ≡ length ws → RowDone q k store v w 0 → Opens store ws (suc q) k w
-  grow : (q k : ℕ) (v w : List ℕ) → Opens store ws q k v → length v ≡ length ws → RowDone q k store v w 2 → Opens store ws (suc q) (suc k) w
+  pass : (q k : ℕ) (v w : List ℕ) → Opens store ws q k v → length v ≡ length ws → RowDone q k store v w Redundant → Opens store ws (suc q) k w
+  grow : (q k : ℕ) (v w : List ℕ) → Opens store ws q k v → length v ≡ length ws → RowDone q k store v w Kept → Opens store ws (suc q) (suc k) w
 
 pub record AllIn (m : ℕ) (store ws : List ℕ) (k : ℕ) (w : List ℕ) : Type 0 where
   pub middle : List ℕ
@@ -74,7 +94,7 @@ pub record Stopped (m : ℕ) (store ws : List ℕ) (q k : ℕ) (w : List ℕ) : 
   pub rows : Opens store ws q k middle
   pub few : k ≤ q
   pub long : length middle ≡ length ws
-  pub last : RowDone q k store middle w 1
+  pub last : RowDone q k store middle w Contradictory
 
 abbrev pub Answered : ℕ → List ℕ → List ℕ → Opening → List ℕ → Type 0
 Answered m store ws (Open k) w = AllIn m store ws k w

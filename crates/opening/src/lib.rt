@@ -138,8 +138,15 @@ pub fn enter(work: &mut [u64], k: usize, u: usize)
     point(work, k, u);
 }
 
-// Row q of the row store goes in, with k rows kept so far: 0 it says nothing new, 1 it contradicts, 2 it is row k.
-pub fn open_row(work: &mut [u64], rows: &[u64], q: usize, k: usize) -> u64
+// What a row that goes in comes to: it says nothing new; it contradicts; it is kept.
+pub enum RowCase {
+    Redundant,
+    Contradictory,
+    Kept,
+}
+
+// Row q of the row store goes in, with k rows kept so far; if it is kept it is row k.
+pub fn open_row(work: &mut [u64], rows: &[u64], q: usize, k: usize) -> RowCase
     requires { ⌜ (size ≤ length (now work)) × (9 * q + 9 ≤ length (now rows)) × (q < maxRows) × (k < maxRows) × Basics k (now work) ⌝ }
     ensures { λ x. ⌜ RowDone q k (now (rows .entry)) (now (work .entry)) (now (work .exit)) x ⌝ }
 {
@@ -148,9 +155,13 @@ pub fn open_row(work: &mut [u64], rows: &[u64], q: usize, k: usize) -> u64
     let u = lowest(load(work, k));
     if u != 0 {
         enter(work, k, u);
-        return 2;
+        return RowCase::Kept;
     }
-    work[ROW * k + LAST] % 2
+    if work[ROW * k + LAST] % 2 == 1 {
+        RowCase::Contradictory
+    } else {
+        RowCase::Redundant
+    }
 }
 
 // Open: the number of kept rows. Unsat: the place of the row that contradicts, and the number of rows kept before it.
@@ -167,12 +178,14 @@ pub fn open_rows(work: &mut [u64], rows: &[u64], m: usize) -> Opening
     let mut q = 0;
     let mut k = 0;
     while q < m {
-        let a = open_row(work, rows, q, k);
-        if a == 1 {
-            return Opening::Unsat(q, k);
-        }
-        if a == 2 {
-            k += 1;
+        match open_row(work, rows, q, k) {
+            RowCase::Contradictory => {
+                return Opening::Unsat(q, k);
+            }
+            RowCase::Kept => {
+                k += 1;
+            }
+            RowCase::Redundant => {}
         }
         q += 1;
     }

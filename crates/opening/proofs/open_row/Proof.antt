@@ -1,10 +1,12 @@
 -- `opening::open_row` meets its contract.
 -- Assumes nothing.
-use mathlib.Core.Path.{_∙_}
-use Prim.Native.Nat.{_<_}
+use mathlib.Core.Path.{_≡_, ap, _∙_}
+use Prim.Native.Nat.{_%_}
 use native.Mathlib.Omega.{arith}
+use lib.ListN.{getD}
 use borrow.Author.Needs.{needs}
-use Rattle.opening.specs.Opened.{one-more}
+use Rattle.words.specs.Words.{digit}
+use Rattle.tableau.specs.Layout.{lastAt}
 use Rattle.opening.proofs.Basics.{basics-loaded}
 use Rattle.opening.proofs.Loads.{lowest-read, none-left}
 use Rattle.opening.proofs.open_row.Statement.{statement}
@@ -33,27 +35,44 @@ returns : tie.Need-returns
 returns c = let l = c .before .before .before .before .before .before .before .before .before .before .before .before .before .before .load-row in
     let d = c .before .before .before .before .before .before .before .before .before .before .reduce in
     let u = c .before .before .before .before .before .lowest in
-    let h : 0 < u .result = omega (arith, c .before .before .before .before .if1 .taken) in
-    one-more (l .last .0) (d .last .0) _ (u .result) (l .ensures) (d .ensures) (lowest-read _ _ _ _ (c .before .before .before .before .before .before .load .ensures) (u .ensures)) h (d .kept .0 ∙ l .kept .0) (c .before .before .enter .ensures)
+    record {
+      begun = l .last .0;
+      left = d .last .0;
+      u = u .result;
+      loaded = l .ensures;
+      reduced = d .ensures;
+      lowest = lowest-read _ _ _ _ (c .before .before .before .before .before .before .load .ensures) (u .ensures);
+      some = omega (arith, c .before .before .before .before .if1 .taken);
+      long = d .kept .0 ∙ l .kept .0;
+      moved = c .before .before .enter .ensures;
+    }
 
-mul-result : tie.Need-mul-result
-mul-result c = search needs
+mul-if2 : tie.Need-mul-if2
+mul-if2 c = search needs
 
-add-result : tie.Need-add-result
-add-result c = search needs
+add-if2 : tie.Need-add-if2
+add-if2 c = search needs
 
-mul-result-2 : tie.Need-mul-result-2
-mul-result-2 c = search needs
+mul-if2-2 : tie.Need-mul-if2-2
+mul-if2-2 c = search needs
 
-slice-read-result : tie.Need-slice-read-result
-slice-read-result c = search needs
+slice-read-if2 : tie.Need-slice-read-if2
+slice-read-if2 c = search needs
 
 same-length-2 : tie.Need-same-length-2
 same-length-2 c = search needs
 
 returns-2 : tie.Need-returns-2
-returns-2 c = let a = c .before .before .before .before .before .before .before .before .before .before .before .before .before .before .before .args in
-    none-left (a .q) (a .k) (a .rows .now) (a .work .now) _ _ _ (c .before .before .before .before .before .before .before .before .before .before .before .load-row .ensures) (c .before .before .before .before .before .before .before .reduce .ensures) (lowest-read _ _ _ _ (c .before .before .before .load .ensures) (c .before .before .lowest .ensures)) (c .before .if1 .left)
+returns-2 c = (none-left _ _ _ _ _ _ _ (c .before .before .before .before .before .before .before .before .before .before .before .before .load-row .ensures) (c .before .before .before .before .before .before .before .before .reduce .ensures) (lowest-read _ _ _ _ (c .before .before .before .before .load .ensures) (c .before .before .before .lowest .ensures)) (c .before .before .if1 .left), ap digit (c .if2 .taken))
+
+same-length-3 : tie.Need-same-length-3
+same-length-3 c = search needs
+
+returns-3 : tie.Need-returns-3
+returns-3 c = let w = c .before .before .before .before .before .before .before .before .reduce .last .0 in
+    let k = c .before .before .before .before .before .before .before .before .before .before .before .before .before .before .before .before .args .k in
+    let e : getD w (lastAt k) 0 % 2 ≡ 0 = omega (arith, c .if2 .left) in
+    (none-left _ _ _ _ _ _ _ (c .before .before .before .before .before .before .before .before .before .before .before .before .load-row .ensures) (c .before .before .before .before .before .before .before .before .reduce .ensures) (lowest-read _ _ _ _ (c .before .before .before .before .load .ensures) (c .before .before .before .lowest .ensures)) (c .before .before .if1 .left), ap digit e)
 
 pub open-row-spec : {M : Type 1} → statement M
 open-row-spec =
@@ -66,9 +85,11 @@ open-row-spec =
     enter-requires
     same-length
     returns
-    mul-result
-    add-result
-    mul-result-2
-    slice-read-result
+    mul-if2
+    add-if2
+    mul-if2-2
+    slice-read-if2
     same-length-2
-    returns-2)
+    returns-2
+    same-length-3
+    returns-3)

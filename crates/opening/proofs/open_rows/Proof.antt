@@ -23,16 +23,25 @@ loop-holds c = (omega arith, omega arith, start, refl)
 open-row-requires : tie.Need-open-row-requires Inv-loop μ-loop
 open-row-requires c κs = let l = c .before .before .loop in let b = opens-basics _ _ (search needs) _ _ _ (omega arith) (l .inv .2) in search needs
 
+enum-told : tie.Need-enum-told Inv-loop μ-loop
+enum-told c = search needs
+
 same-length : tie.Need-same-length Inv-loop μ-loop
 same-length c = search needs
 
 returns : tie.Need-returns Inv-loop μ-loop
-returns c = let l = c .before .before .before .before .before .before .loop in
-    let o = c .before .before .before .open-row in
-    record { middle = l .work; low = omega arith; rows = l .inv .2; few = l .inv .1; long = l .inv .3; last = rw (c .if1 .taken) at (o .ensures) }
+returns c = let l = c .before .before .before .before .before .before .before .loop in
+    let o = c .before .before .before .before .open-row in
+    record { middle = l .work; low = omega arith; rows = l .inv .2; few = l .inv .1; long = l .inv .3; last = rw (c .enum-told .given .1) at (o .ensures) }
+
+enum-told-2 : tie.Need-enum-told-2 Inv-loop μ-loop
+enum-told-2 c = search needs
 
 add-k : tie.Need-add-k Inv-loop μ-loop
-add-k c = search needs
+add-k c = omega arith
+
+enum-told-3 : tie.Need-enum-told-3 Inv-loop μ-loop
+enum-told-3 c = search needs
 
 add-q : tie.Need-add-q Inv-loop μ-loop
 add-q c = search needs
@@ -41,9 +50,13 @@ loop-less : tie.Need-loop-less Inv-loop μ-loop
 loop-less c = search needs
 
 loop-again : tie.Need-loop-again Inv-loop μ-loop
-loop-again c = let l = c .before .before .before .before .before .before .before .loop in
-    let o = c .before .before .before .before .open-row in
-    (omega arith, ⊎-elim (λ w. let e = w .1 in omega arith) (λ w. let e = w .1 in omega arith) (c .if2 .came), opens-next _ _ (l .q) (l .k) (l .work) _ _ _ (l .inv .2) (l .inv .3) (o .ensures) (c .before .if1 .left) (⊎-elim (λ w. inl (w .0 .taken, w .1)) (λ w. inr (w .0 .left, w .1)) (c .if2 .came)), o .kept .0 ∙ l .inv .3)
+loop-again c = let l = c .before .before .before .before .before .before .loop in
+    let o = c .before .before .before .open-row in (
+      omega arith,
+      ⊎-elim (λ w. let e = w .2 in omega arith) (λ w. let e = w .2 in omega arith) (c .match .came),
+      opens-next _ _ (l .q) (l .k) (l .work) _ _ (l .inv .2) (l .inv .3) (⊎-elim (λ w. inl (rw (w .1 .given .1) at (o .ensures), w .2)) (λ w. inr (rw (w .1 .given .1) at (o .ensures), w .2)) (c .match .came)),
+      o .kept .0 ∙ l .inv .3,
+    )
 
 restart-requires : tie.Need-restart-requires Inv-loop μ-loop
 restart-requires c κs = search needs
@@ -64,9 +77,12 @@ open-rows-spec =
     μ-loop
     loop-holds
     open-row-requires
+    enum-told
     same-length
     returns
+    enum-told-2
     add-k
+    enum-told-3
     add-q
     loop-less
     loop-again
