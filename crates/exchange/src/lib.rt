@@ -2,6 +2,7 @@
 use settle::follow;
 use settle::put;
 use settle::settle_row;
+use tableau::COEF_WORDS;
 use tableau::KNOWN;
 use tableau::LAST;
 use tableau::ROW;
@@ -29,7 +30,7 @@ pub fn partner(work: &[u64], r: usize, v: usize) -> usize
     let a = ROW * r;
     let mut found = 0;
     let mut w = 0;
-    'scan: while w < 8 {
+    'scan: while w < COEF_WORDS {
         let x = work[a + w];
         let y = x ^ (x & (work[KNOWN + w] | own(v, w)));
         if y != 0 {

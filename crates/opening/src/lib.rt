@@ -2,6 +2,7 @@
 use exchange::point;
 use settle::restart;
 use tableau::FROM;
+use tableau::FROM_WORDS;
 use tableau::LAST;
 use tableau::ROW;
 use tableau::add_row;
@@ -28,7 +29,7 @@ pub fn mark_row(work: &mut [u64], q: usize, k: usize)
 {
     let a = ROW * k + FROM;
     let mut j = 0;
-    while j < 4 {
+    while j < FROM_WORDS {
         work[a + j] = own(q + 1, j);
         j += 1;
     }

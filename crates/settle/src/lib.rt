@@ -1,5 +1,6 @@
 // Values: those of the taken literals, and then what each row gives its basic variable; all anew, or on from one more literal.
 use tableau::CODES;
+use tableau::COEF_WORDS;
 use tableau::KNOWN;
 use tableau::LAST;
 use tableau::ROW;
@@ -41,7 +42,7 @@ pub fn overlay(work: &[u64], r: usize) -> u64
     let a = ROW * r;
     let mut over = 0;
     let mut j = 0;
-    while j < 8 {
+    while j < COEF_WORDS {
         let x = work[a + j];
         let y = x ^ (x & work[KNOWN + j]);
         over = over | y;
@@ -57,7 +58,7 @@ pub fn alone(work: &[u64], r: usize, v: usize) -> bool
 {
     let a = ROW * r;
     let mut j = 0;
-    while j < 8 {
+    while j < COEF_WORDS {
         let x = work[a + j];
         let y = x ^ (x & work[KNOWN + j]);
         let z = own(v, j);
@@ -137,7 +138,7 @@ pub fn clear_values(work: &mut [u64])
     ensures { λ _. ⌜ Run knownAt (2 * coefWords) (λ i. 0) (now (work .entry)) (now (work .exit)) ⌝ }
 {
     let mut j = 0;
-    while j < 16 {
+    while j < 2 * COEF_WORDS {
         work[KNOWN + j] = 0;
         j += 1;
     }

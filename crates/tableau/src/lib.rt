@@ -9,20 +9,26 @@ ghost use Rattle.tableau.specs.Buffer.{Run, Reads, Added, entryAt, Recor
 
 // Past the code of the last literal.
 pub const CODES: u64 = 1026;
-// Words a row; where in a row its provenance starts, and where its last word stands: 2 × basic variable + parity.
-pub const ROW: usize = 13;
-
-pub const FROM: usize = 8;
-
-pub const LAST: usize = 12;
+// Words of a bit for each variable.
+pub const COEF_WORDS: usize = 8;
+// Words of a bit for each row.
+pub const FROM_WORDS: usize = 4;
+// The most rows.
+pub const MAX_ROWS: usize = 256;
+// Where in a row its provenance starts.
+pub const FROM: usize = COEF_WORDS;
+// Where in a row its last word stands: 2 × basic variable + parity.
+pub const LAST: usize = COEF_WORDS + FROM_WORDS;
+// Words a row.
+pub const ROW: usize = LAST + 1;
+// Where the variables with a value start.
+pub const KNOWN: usize = ROW * MAX_ROWS;
+// Where the true ones of them start.
+pub const TRUTH: usize = KNOWN + COEF_WORDS;
+// Where the record of taken literals starts.
+pub const RECORD: usize = TRUTH + COEF_WORDS;
 // The words in use.
 pub const SIZE: usize = 4096;
-// Where the variables with a value start, the true ones, and the record of taken literals.
-pub const KNOWN: usize = 3328;
-
-pub const TRUTH: usize = 3336;
-
-pub const RECORD: usize = 3344;
 
 // `count` words of `source` from place `start` go to `target` from place `at`.
 pub fn copy(target: &mut [u64], at: usize, source: &[u64], start: usize, count: usize)
@@ -42,7 +48,7 @@ pub fn words_at(work: &[u64], at: usize) -> [u64; 8]
     ensures { λ r. ⌜ Reads coefWords (now (work .entry)) at r ⌝ }
 {
     let mut out = [0u64; 8];
-    copy(&mut out, 0, work, at, 8);
+    copy(&mut out, 0, work, at, COEF_WORDS);
     out
 }
 
@@ -59,7 +65,7 @@ pub fn store(work: &mut [u64], r: usize, row: [u64; 8])
     requires { ⌜ (size ≤ length (now work)) × (r < maxRows) ⌝ }
     ensures { λ _. ⌜ Run (rowAt r) coefWords (λ j. getD row (0 + j) 0) (now (work .entry)) (now (work .exit)) ⌝ }
 {
-    copy(work, ROW * r, &row, 0, 8);
+    copy(work, ROW * r, &row, 0, COEF_WORDS);
 }
 
 // The provenance of row r.
@@ -68,7 +74,7 @@ pub fn load_from(work: &[u64], r: usize) -> [u64; 4]
     ensures { λ x. ⌜ Reads fromWords (now (work .entry)) (fromAt r) x ⌝ }
 {
     let mut out = [0u64; 4];
-    copy(&mut out, 0, work, ROW * r + FROM, 4);
+    copy(&mut out, 0, work, ROW * r + FROM, FROM_WORDS);
     out
 }
 
@@ -77,7 +83,7 @@ pub fn store_from(work: &mut [u64], r: usize, from: [u64; 4])
     requires { ⌜ (size ≤ length (now work)) × (r < maxRows) ⌝ }
     ensures { λ _. ⌜ Run (fromAt r) fromWords (λ j. getD from (0 + j) 0) (now (work .entry)) (now (work .exit)) ⌝ }
 {
-    copy(work, ROW * r + FROM, &from, 0, 4);
+    copy(work, ROW * r + FROM, &from, 0, FROM_WORDS);
 }
 
 // Row `from` is added into row `to`, which keeps its basic variable.

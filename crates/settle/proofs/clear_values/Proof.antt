@@ -19,6 +19,9 @@ abbrev μ-loop : tie.MeasureT-loop
 loop-holds : tie.Need-loop-holds Inv-loop μ-loop
 loop-holds c = (omega arith, run-none _ _ _)
 
+mul-loop : tie.Need-mul-loop Inv-loop μ-loop
+mul-loop c = search needs
+
 add-work : tie.Need-add-work Inv-loop μ-loop
 add-work c = search needs
 
@@ -51,6 +54,7 @@ clear-values-spec =
     Inv-loop
     μ-loop
     loop-holds
+    mul-loop
     add-work
     mul-work
     slice-write-work
