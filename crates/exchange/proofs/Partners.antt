@@ -3,29 +3,23 @@
 --   other-yes, other-no               its bits, as the code reads them
 --   other-none                        a word of 0 has none
 -- Assumes nothing.
-use mathlib.Core.Path.{_≡_, refl, sym, ap, ap₂, _∙_}
+use mathlib.Core.Path.{_≡_, sym, ap, ap₂, _∙_}
 use mathlib.Core.List.{List}
-use mathlib.Core.Bool.{Bool, true, false, not, _&&_, _||_, and-true}
+use mathlib.Core.Bool.{Bool, true, false, not, _&&_, and-true}
 use mathlib.Core.Logic.{_≢_}
 use Prim.Native.Nat.{ℕ, _+_, _*_, _-_, _/_, _%_, _^_, _<_}
 use native.Mathlib.Decide.{decLt}
 use native.Mathlib.Omega.{arith}
 use lib.ListN.{getD}
 use lib.Bits.{bitAnd, bitOr, bitXor}
-use Rattle.gf2.specs.Field.{_⊕_, same}
+use Rattle.gf2.specs.Field.{same}
 use Rattle.gf2.proofs.Search.{and-both}
 use Rattle.gf2.proofs.Sums.{same-refl, same-ne}
 use Rattle.linear.proofs.Assume.{clash}
 use Rattle.words.specs.Words.{digit, bitOf, bitAt, ownWord}
-use Rattle.words.proofs.Bits.{bit-xor, bit-and, bit-or, zero-bits, own-bit}
+use Rattle.words.proofs.Bits.{bit-without-or, zero-bits, own-bit}
 use Rattle.tableau.specs.Layout.{rowAt, knownAt}
 use Rattle.settle.specs.Values.{lacks}
-use Rattle.settle.proofs.Testing.{and-not}
-
-without : (a b c : Bool) → a && not (b || c) ≡ (a && not b) && not c
-without true true c = refl
-without true false c = refl
-without false b c = refl
 
 module _ (ws : List ℕ) (r p : ℕ) where
   abbrev pub other-word : ℕ → ℕ
@@ -34,12 +28,8 @@ module _ (ws : List ℕ) (r p : ℕ) where
   other-bit : (i : ℕ) → bitOf (other-word (i / 64)) (63 - i % 64) ≡ lacks ws r i && not (same p i)
   unfolding lacks bitAt
   other-bit i =
-      bit-xor (getD ws (rowAt r + i / 64) 0) _ (63 - i % 64)
-      ∙ ap (λ (x : Bool). bitOf (getD ws (rowAt r + i / 64) 0) (63 - i % 64) ⊕ x)
-      (bit-and (getD ws (rowAt r + i / 64) 0) (bitOr (getD ws (knownAt + i / 64) 0) (ownWord p (i / 64))) (63 - i % 64)
-      ∙ ap (λ (x : Bool). bitOf (getD ws (rowAt r + i / 64) 0) (63 - i % 64) && x) (bit-or (getD ws (knownAt + i / 64) 0) (ownWord p (i / 64)) (63 - i % 64) ∙ ap (λ (x : Bool). bitOf (getD ws (knownAt + i / 64) 0) (63 - i % 64) || x) (own-bit p i)))
-      ∙ and-not (bitOf (getD ws (rowAt r + i / 64) 0) (63 - i % 64)) (bitOf (getD ws (knownAt + i / 64) 0) (63 - i % 64) || same p i)
-      ∙ without (bitOf (getD ws (rowAt r + i / 64) 0) (63 - i % 64)) (bitOf (getD ws (knownAt + i / 64) 0) (63 - i % 64)) (same p i)
+      bit-without-or (getD ws (rowAt r + i / 64) 0) (getD ws (knownAt + i / 64) 0) (ownWord p (i / 64)) (63 - i % 64)
+      ∙ ap (λ (x : Bool). (bitOf (getD ws (rowAt r + i / 64) 0) (63 - i % 64) && not (bitOf (getD ws (knownAt + i / 64) 0) (63 - i % 64))) && not x) (own-bit p i)
 
   module _ (w b : ℕ) (l : b < 64) where
     other-in : bitOf (other-word w) (63 - b) ≡ lacks ws r (w * 64 + b) && not (same p (w * 64 + b))

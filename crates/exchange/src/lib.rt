@@ -13,6 +13,7 @@ use tableau::column;
 use tableau::set_entry;
 use words::bit;
 use words::own;
+use words::without;
 ghost use mathlib.Core.Bool.{true};
 ghost use mathlib.Core.Path.{_≡_};
 ghost use Prim.Native.Nat.{_+_, _*_, _-_, _<_, _≤_};
@@ -31,8 +32,7 @@ pub fn partner(work: &[u64], r: usize, v: usize) -> usize
     let mut found = 0;
     let mut w = 0;
     'scan: while w < COEF_WORDS {
-        let x = work[a + w];
-        let y = x ^ (x & (work[KNOWN + w] | own(v, w)));
+        let y = without(work[a + w], work[KNOWN + w] | own(v, w));
         if y != 0 {
             let mut b = 0;
             while b < 64 {

@@ -20,12 +20,12 @@ use Rattle.gf2.specs.Answers.{code}
 use Rattle.gf2.specs.Places.{scanned}
 use Rattle.gf2.proofs.Sums.{same-refl}
 use Rattle.words.specs.Words.{digit, bitOf, bitAt}
-use Rattle.words.proofs.Bits.{bit-xor, bit-in, bit-front}
+use Rattle.words.proofs.Bits.{bit-xor, bit-without, bit-in, bit-front}
 use Rattle.tableau.specs.Layout.{rowAt, fromAt, knownAt, truthAt}
 use Rattle.tableau.specs.View.{vals}
 use Rattle.lists.specs.Listing.{numbers, isNew, isOther, FirstOnes, But, items, ListPut}
 use Rattle.lists.proofs.Picking.{Grows, scanned-grows, numbers-grows, passed, grown, few, gap, joined, listed-none, listed-join}
-use Rattle.lists.proofs.Digits.{without, items-grows}
+use Rattle.lists.proofs.Digits.{items-grows}
 
 abbrev pub news : List ℕ → List ℕ → ℕ → ℕ → List ℕ
 news work old v k = scanned k (isNew work old v) (vals work truthAt)
@@ -104,7 +104,7 @@ module _ (n w z x : ℕ) (live : w * 64 < n) (first : FirstOnes z (n - w * 64) x
       step grows n 0 w out o c _ (omega (arith, few grows n)) big k live
       (word grows n (w * 64) z x (bitXor x truth) 2 live first
       (λ i m. ap₂ (λ (a b : Bool). a && not b)
-      (ap₂ (λ (a b : Bool). a && not b) (bit-in work knownAt w i m) (bit-front old w i m) ∙ sym (without (getD work (knownAt + w) 0) (getD old w 0) (63 - i)))
+      (ap₂ (λ (a b : Bool). a && not b) (bit-in work knownAt w i m) (bit-front old w i m) ∙ sym (bit-without (getD work (knownAt + w) 0) (getD old w 0) (63 - i)))
       (ap (same (suc (w * 64 + i))) (sym e))
       ∙ sym (but .ones i m))
       (λ i m q. code-item (w * 64 + i) (bitXor x truth) (63 - i) _

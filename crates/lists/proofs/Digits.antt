@@ -1,6 +1,5 @@
 -- THE DIGITS OF ONE WORD, the top one first: which of them are kept, and how they are listed.
 --   first-shifted, first-all          the ones among the first digits, as two shifts leave them; all of them
---   without                           a digit of the ones of x that are none of y
 --   but-below, but-above, but-one     the ones but that of a variable: it is none of the word's, or its digit is taken away
 --   items-grows, item-le              the list of the ones, as a scan makes it; an item is small
 --   Rest                              the loop that lists a word: the digits before `seen` are listed, and the others are left
@@ -8,7 +7,7 @@
 --   rest-end                          the list when nothing is left
 -- Assumes nothing.
 use mathlib.Core.Path.{_≡_, refl, sym, ap, ap₂, _∙_}
-use mathlib.Core.Bool.{Bool, true, false, _&&_, not, and-true}
+use mathlib.Core.Bool.{Bool, _&&_, not, and-true}
 use mathlib.Core.List.{List, [], _∷_, _++_}
 use mathlib.Core.Logic.{_⊎_, inl, inr, _≢_}
 use Prim.Native.Nat.{ℕ, suc, _+_, _*_, _-_, _/_, _%_, _^_, _<_, _≤_}
@@ -18,11 +17,11 @@ use lib.Bits.{bitAnd, bitXor}
 use lib.Count.{leadingZeros}
 use lib.ListN.{length, set, length-append}
 use lib.Pow.{shr-shr, split}
-use Rattle.gf2.specs.Field.{_⊕_, same}
+use Rattle.gf2.specs.Field.{same}
 use Rattle.gf2.specs.Places.{listed-if}
 use Rattle.gf2.proofs.Sums.{same-dec, same-refl, same-ne}
 use Rattle.words.specs.Words.{digit, bitOf}
-use Rattle.words.proofs.Bits.{bit-xor, bit-and, pow-bit}
+use Rattle.words.proofs.Bits.{bit-without, pow-bit}
 use Rattle.words.proofs.Ones.{high-digit, low-digit, one-digit, zeros-lt, Left, left-start, left-end, left-seen, left-top, left-skip, left-next}
 use Rattle.tableau.specs.Layout.{maxVars}
 use Rattle.lists.specs.Listing.{FirstOnes, But, items, ListPut}
@@ -49,14 +48,6 @@ pub first-all : (x k : ℕ) → 64 ≤ k → FirstOnes x k x
 first-all x k l = record { kept = λ i a b. refl; none = λ i a b. absurd (omega arith) }
 
 -- ---- the digits but that of a variable
-pub without : (x y j : ℕ) → bitOf (bitXor x (bitAnd x y)) j ≡ bitOf x j && not (bitOf y j)
-without x y j = bit-xor x (bitAnd x y) j ∙ ap (λ (b : Bool). bitOf x j ⊕ b) (bit-and x y j) ∙ go (bitOf x j) (bitOf y j)
-  where
-    go : (a b : Bool) → a ⊕ (a && b) ≡ a && not b
-    go true true = refl
-    go true false = refl
-    go false b = refl
-
 but-none : (x base v : ℕ) → ((i : ℕ) → i < 64 → suc (base + i) ≢ v) → But x base v x
 but-none x base v d = record { ones = λ i l. sym (ap (λ (b : Bool). bitOf x (63 - i) && not b) (same-ne (suc (base + i)) v (d i l)) ∙ and-true (bitOf x (63 - i))) }
 
@@ -77,7 +68,7 @@ but-one x base v lo hi = record { ones = ones }
     ones i l =
         let s : base + 64 - v < 64 = omega arith in
         ap (λ (y : ℕ). bitOf (bitXor x (bitAnd x y)) (63 - i)) (one-digit (base + 64 - v) s)
-        ∙ without x (2 ^ (base + 64 - v)) (63 - i)
+        ∙ bit-without x (2 ^ (base + 64 - v)) (63 - i)
         ∙ ap (λ (b : Bool). bitOf x (63 - i) && not b) (pow-bit (base + 64 - v) (63 - i) ∙ here i l (same-dec (suc (base + i)) v))
 
 -- ---- the list of the ones

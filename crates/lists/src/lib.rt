@@ -4,6 +4,7 @@ use tableau::KNOWN;
 use tableau::ROW;
 use tableau::TRUTH;
 use words::bit;
+use words::without;
 ghost use mathlib.Core.Path.{_≡_};
 ghost use mathlib.Core.Bool.{not};
 ghost use mathlib.Core.List.{_∷_};
@@ -53,7 +54,7 @@ pub fn but(x: u64, base: usize, v: usize) -> u64
         return x;
     }
     let one = 1 << (base + 64 - v);
-    x ^ (x & one)
+    without(x, one)
 }
 
 // The ones of x are listed from place `at` on: that of digit i, the top one first, as s * (base + i + 1), and 1 more where t has a one too.
@@ -82,8 +83,7 @@ pub fn list_new(work: &[u64], old: &[u64], v: usize, n: usize, out: &mut [u64]) 
     let mut w = 0;
     while w * 64 < n {
         let base = w * 64;
-        let known = work[KNOWN + w];
-        let fresh = known ^ (known & old[w]);
+        let fresh = without(work[KNOWN + w], old[w]);
         let x = first_ones(but(fresh, base, v), n - base);
         // Among the ones of x, x ^ truth has those of the variables that are false: their codes are odd.
         c = list_word(x, x ^ work[TRUTH + w], 2, base, c, out);

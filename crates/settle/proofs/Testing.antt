@@ -1,11 +1,10 @@
 -- THE TEST FOR THE ONE VARIABLE OF A ROW WITHOUT A VALUE, word by word.
---   and-not               x ^ (x & y) has the ones of x that y has not
 --   open-word ws r j      word j of the variables of row r that have no value, as the code makes it
 --   rest-word ws r p j    the same without variable p + 1: 0 in each word where p + 1 is the only one
 --   full-more, word-bad   a word that passes the test, and that each would
 --   overlay-none, -more   the words laid over one another; overlay-bad: they pass the first test
 -- Assumes nothing.
-use mathlib.Core.Path.{_≡_, refl, sym, ap, ap₂, _∙_}
+use mathlib.Core.Path.{_≡_, sym, ap, ap₂, _∙_}
 use mathlib.Core.List.{List}
 use mathlib.Core.Bool.{Bool, true, false, not, _&&_, _||_}
 use mathlib.Core.Logic.{_⊎_, inl, inr, _≢_}
@@ -20,14 +19,9 @@ use Rattle.gf2.proofs.Field.{xor-eq, eq-xor}
 use Rattle.gf2.proofs.Sums.{same-dec, same-refl, same-ne, bool-dec}
 use Rattle.linear.proofs.Assume.{clash}
 use Rattle.words.specs.Words.{bitOf, bitAt, ownWord}
-use Rattle.words.proofs.Bits.{bit-xor, bit-and, bit-or, bits-zero, zero-bits, own-bit, own-lt}
+use Rattle.words.proofs.Bits.{bit-xor, bit-or, bit-without, bits-zero, zero-bits, own-bit, own-lt}
 use Rattle.tableau.specs.Layout.{maxVars, rowAt, knownAt}
 use Rattle.settle.specs.Values.{lacks, Overlay}
-
-pub and-not : (a b : Bool) → a ⊕ (a && b) ≡ a && not b
-and-not true true = refl
-and-not true false = refl
-and-not false b = refl
 
 module _ (ws : List ℕ) (r : ℕ) where
   abbrev pub open-word : ℕ → ℕ
@@ -35,10 +29,7 @@ module _ (ws : List ℕ) (r : ℕ) where
 
   open-bit : (i : ℕ) → bitOf (open-word (i / 64)) (63 - i % 64) ≡ lacks ws r i
   unfolding lacks bitAt
-  open-bit i =
-      bit-xor (getD ws (rowAt r + i / 64) 0) (bitAnd (getD ws (rowAt r + i / 64) 0) (getD ws (knownAt + i / 64) 0)) (63 - i % 64)
-      ∙ ap (λ (x : Bool). bitOf (getD ws (rowAt r + i / 64) 0) (63 - i % 64) ⊕ x) (bit-and (getD ws (rowAt r + i / 64) 0) (getD ws (knownAt + i / 64) 0) (63 - i % 64))
-      ∙ and-not (bitOf (getD ws (rowAt r + i / 64) 0) (63 - i % 64)) (bitOf (getD ws (knownAt + i / 64) 0) (63 - i % 64))
+  open-bit i = bit-without (getD ws (rowAt r + i / 64) 0) (getD ws (knownAt + i / 64) 0) (63 - i % 64)
 
   pub overlay-none : Overlay 0 ws r 0
   overlay-none t l e = absurd (clash (bitOf 0 (63 - t)) e (zero-bits (63 - t)))
@@ -61,7 +52,7 @@ module _ (ws : List ℕ) (r : ℕ) where
     pub overlay-bad : (x : ℕ) → x < 2 ^ 64 → Overlay 8 ws r x → ((i : ℕ) → i < maxVars → lacks ws r i ≡ same p i) → bitXor x (bitAnd x (ownWord p (p / 64))) ≡ 0
     overlay-bad x f o h =
         bits-zero 64 _ (xor-lt 64 _ _ f (lt-of-le-of-lt (and-le-l x (ownWord p (p / 64))) f))
-        (λ t l. bit-xor x (bitAnd x (ownWord p (p / 64))) t ∙ ap (λ (a : Bool). bitOf x t ⊕ a) (bit-and x (ownWord p (p / 64)) t) ∙ go t l (bool-dec (bitOf x t)))
+        (λ t l. bit-without x (ownWord p (p / 64)) t ∙ go t l (bool-dec (bitOf x t)))
       where
         own-digit : (t : ℕ) → 63 - p % 64 ≡ t → bitOf (ownWord p (p / 64)) t ≡ true
         own-digit t e = ap (bitOf (ownWord p (p / 64))) (sym e) ∙ own-bit p p ∙ same-refl p
@@ -70,7 +61,7 @@ module _ (ws : List ℕ) (r : ℕ) where
         place t j l m e (inl z) = omega arith
         place t j l m e (inr z) = absurd (clash (lacks ws r (j * 64 + (63 - t))) e (h (j * 64 + (63 - t)) (omega arith) ∙ same-ne p (j * 64 + (63 - t)) z))
 
-        go : (t : ℕ) → t < 64 → (bitOf x t ≡ true) ⊎ (bitOf x t ≡ false) → bitOf x t ⊕ (bitOf x t && bitOf (ownWord p (p / 64)) t) ≡ false
+        go : (t : ℕ) → t < 64 → (bitOf x t ≡ true) ⊎ (bitOf x t ≡ false) → bitOf x t && not (bitOf (ownWord p (p / 64)) t) ≡ false
         go t l (inr z) = rw z
         go t l (inl z) =
             let s : 63 - (63 - t) ≡ t = omega arith in

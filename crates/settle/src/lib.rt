@@ -12,6 +12,7 @@ use tableau::entry;
 use tableau::load;
 use words::odd;
 use words::own;
+use words::without;
 ghost use mathlib.Core.Path.{_≡_};
 ghost use Prim.Native.Nat.{_+_, _*_, _-_, _<_, _≤_};
 ghost use lib.ListN.{length};
@@ -43,9 +44,7 @@ pub fn overlay(work: &[u64], r: usize) -> u64
     let mut over = 0;
     let mut j = 0;
     while j < COEF_WORDS {
-        let x = work[a + j];
-        let y = x ^ (x & work[KNOWN + j]);
-        over = over | y;
+        over = over | without(work[a + j], work[KNOWN + j]);
         j += 1;
     }
     over
@@ -59,10 +58,8 @@ pub fn alone(work: &[u64], r: usize, v: usize) -> bool
     let a = ROW * r;
     let mut j = 0;
     while j < COEF_WORDS {
-        let x = work[a + j];
-        let y = x ^ (x & work[KNOWN + j]);
-        let z = own(v, j);
-        if y ^ z != 0 {
+        let open = without(work[a + j], work[KNOWN + j]);
+        if open ^ own(v, j) != 0 {
             return false;
         }
         j += 1;
@@ -77,7 +74,7 @@ pub fn full(work: &[u64], r: usize, v: usize) -> bool
 {
     let over = overlay(work, r);
     let mine = own(v, (v - 1) / 64);
-    if over ^ (over & mine) != 0 {
+    if without(over, mine) != 0 {
         return false;
     }
     alone(work, r, v)

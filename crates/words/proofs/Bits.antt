@@ -1,5 +1,6 @@
 -- THE BITS OF WORDS, over any number of words.
 --   bit-xor, bit-and, bit-or        a bit of a word made by an operator
+--   bit-without, bit-without-or     a bit of the ones of a that b has not, and that neither b nor c has
 --   zero-bits, bits-zero            a word is 0 when its bits are, and only then
 --   pow-bit, own-bit, own-lt        the words that have one bit alone
 --   word-xor, length-xor            the sum of words, word by word
@@ -9,7 +10,7 @@
 --   lowest-none, lowest-found       the lowest variable, as the count of leading zeros finds it
 -- Assumes nothing.
 use mathlib.Core.Path.{_≡_, refl, sym, ap, ap₂, _∙_}
-use mathlib.Core.Bool.{Bool, true, false, _&&_, _||_, cond, true≢false}
+use mathlib.Core.Bool.{Bool, true, false, not, _&&_, _||_, cond, true≢false}
 use mathlib.Core.Logic.{_⊎_, inl, inr, _≢_}
 use mathlib.Core.List.{List, [], _∷_}
 use Prim.Native.Nat.{ℕ, zero, suc, _+_, _*_, _-_, _/_, _%_, _^_, _<_, _≤_, suc-le-suc, max}
@@ -67,6 +68,22 @@ or-low a b = omega (arith, or-step a b)
 
 pub bit-or : (a b j : ℕ) → bitOf (bitOr a b) j ≡ (bitOf a j || bitOf b j)
 bit-or a b j = rw (or-shr a b j, or-low (a / 2 ^ j) (b / 2 ^ j)) (digit-or _ _ (mod-lt (a / 2 ^ j) (zero-lt-suc 1)) (mod-lt (b / 2 ^ j) (zero-lt-suc 1)))
+
+pub bit-without : (a b j : ℕ) → bitOf (bitXor a (bitAnd a b)) j ≡ bitOf a j && not (bitOf b j)
+bit-without a b j = bit-xor a (bitAnd a b) j ∙ ap (λ (x : Bool). bitOf a j ⊕ x) (bit-and a b j) ∙ go (bitOf a j) (bitOf b j)
+  where
+    go : (x y : Bool) → x ⊕ (x && y) ≡ x && not y
+    go true true = refl
+    go true false = refl
+    go false y = refl
+
+pub bit-without-or : (a b c j : ℕ) → bitOf (bitXor a (bitAnd a (bitOr b c))) j ≡ (bitOf a j && not (bitOf b j)) && not (bitOf c j)
+bit-without-or a b c j = bit-without a (bitOr b c) j ∙ ap (λ (x : Bool). bitOf a j && not x) (bit-or b c j) ∙ go (bitOf a j) (bitOf b j) (bitOf c j)
+  where
+    go : (x y z : Bool) → x && not (y || z) ≡ (x && not y) && not z
+    go true true z = refl
+    go true false z = refl
+    go false y z = refl
 
 -- the bits above the lowest are those of the half
 pub bit-half : (w i : ℕ) → bitOf w (suc i) ≡ bitOf (w / 2) i

@@ -2,6 +2,7 @@
 ghost use mathlib.Core.Path.{_≡_};
 ghost use mathlib.Core.Bool.{_&&_};
 ghost use Prim.Native.Nat.{_+_, _-_, _<_, _≤_};
+ghost use lib.Bits.{bitAnd, bitXor};
 ghost use lib.ListN.{length};
 ghost use Rattle.gf2.specs.Field.{xsum};
 ghost use Rattle.words.specs.Words.{bitAt, xorWords, ownWord, Lowest};
@@ -71,6 +72,13 @@ pub fn own(v: usize, j: usize) -> u64
 {
     let p = v - 1;
     if p / 64 == j { 1 << (63 - p % 64) } else { 0 }
+}
+
+// The ones of x that y does not have.
+pub fn without(x: u64, y: u64) -> u64
+    ensures { λ r. ⌜ r ≡ bitXor x (bitAnd x y) ⌝ }
+{
+    x ^ (x & y)
 }
 
 // Whether the eight words from place a have the bit of variable v.

@@ -14,10 +14,10 @@ use Rattle.exchange.proofs.partner.Statement.{statement}
 use Rattle.exchange.proofs.partner.Tie as tie
 
 abbrev Inv-loop : tie.InvT-loop
-Inv-loop work r v a found₀ w x y b₀ found b = (b ≤ 64) × (found ≡ 0) × ((i : ℕ) → i < w * 64 + b → i ≢ v - 1 → lacks work r i ≡ false)
+Inv-loop work r v a found₀ w y b₀ found b = (b ≤ 64) × (found ≡ 0) × ((i : ℕ) → i < w * 64 + b → i ≢ v - 1 → lacks work r i ≡ false)
 
 abbrev μ-loop : tie.MeasureT-loop
-μ-loop work r v a found₀ w x y b₀ found b = 64 - b
+μ-loop work r v a found₀ w y b₀ found b = 64 - b
 
 abbrev Inv-scan : tie.InvT-scan
 Inv-scan work r v a found₀ w₀ found w = (w ≤ 8) × (found ≡ 0) × ((i : ℕ) → i < w * 64 → i ≢ v - 1 → lacks work r i ≡ false)
@@ -31,29 +31,32 @@ mul-a c = search needs
 scan-holds : tie.Need-scan-holds Inv-loop μ-loop Inv-scan μ-scan
 scan-holds c = (omega arith, refl, λ i h. absurd (omega arith))
 
-add-x : tie.Need-add-x Inv-loop μ-loop Inv-scan μ-scan
-add-x c = search needs
+add-without : tie.Need-add-without Inv-loop μ-loop Inv-scan μ-scan
+add-without c = search needs
 
-mul-x : tie.Need-mul-x Inv-loop μ-loop Inv-scan μ-scan
-mul-x c = search needs
+mul-without : tie.Need-mul-without Inv-loop μ-loop Inv-scan μ-scan
+mul-without c = search needs
 
-shared-slice-read-x : tie.Need-shared-slice-read-x Inv-loop μ-loop Inv-scan μ-scan
-shared-slice-read-x c = search needs
+shared-slice-read-without : tie.Need-shared-slice-read-without Inv-loop μ-loop Inv-scan μ-scan
+shared-slice-read-without c = search needs
 
-add-y : tie.Need-add-y Inv-loop μ-loop Inv-scan μ-scan
-add-y c = search needs
+add-without-2 : tie.Need-add-without-2 Inv-loop μ-loop Inv-scan μ-scan
+add-without-2 c = search needs
 
-mul-y : tie.Need-mul-y Inv-loop μ-loop Inv-scan μ-scan
-mul-y c = search needs
+mul-without-2 : tie.Need-mul-without-2 Inv-loop μ-loop Inv-scan μ-scan
+mul-without-2 c = search needs
 
-shared-slice-read-y : tie.Need-shared-slice-read-y Inv-loop μ-loop Inv-scan μ-scan
-shared-slice-read-y c = search needs
+shared-slice-read-without-2 : tie.Need-shared-slice-read-without-2 Inv-loop μ-loop Inv-scan μ-scan
+shared-slice-read-without-2 c = search needs
 
 own-requires : tie.Need-own-requires Inv-loop μ-loop Inv-scan μ-scan
 own-requires c κs = search needs
 
+without-requires : tie.Need-without-requires Inv-loop μ-loop Inv-scan μ-scan
+without-requires c κs = search needs
+
 loop-holds : tie.Need-loop-holds Inv-loop μ-loop Inv-scan μ-scan
-loop-holds c = let s = c .before .before .before .before .before .scan in
+loop-holds c = let s = c .before .before .before .before .before .before .scan in
     (omega arith, s .inv .1, λ i h. s .inv .2 i (omega arith))
 
 sub-if2 : tie.Need-sub-if2 Inv-loop μ-loop Inv-scan μ-scan
@@ -79,12 +82,12 @@ loop-less c = search needs
 
 loop-again : tie.Need-loop-again Inv-loop μ-loop Inv-scan μ-scan
 loop-again c = let l = c .before .before .loop in
-    let s = c .before .before .before .before .before .before .before .before .scan in
-    let a = c .before .before .before .before .before .before .before .before .before .before .args in (
+    let s = c .before .before .before .before .before .before .before .before .before .scan in
+    let a = c .before .before .before .before .before .before .before .before .before .before .before .args in (
       omega arith,
       l .inv .1,
       λ i h. below-more (λ j. j ≢ a .v - 1 → lacks (now (a .work)) (a .r) j ≡ false) (s .w * 64 + l .b) (l .inv .2)
-          (other-no (now (a .work)) (a .r) (a .v - 1) (s .w) (l .b) (omega arith) (rw (← c .before .before .before .before .own .ensures) (λ h. omega (arith, h, c .if2 .left)))) i (omega arith),
+          (other-no (now (a .work)) (a .r) (a .v - 1) (s .w) (l .b) (omega arith) (rw (← c .before .before .before .before .before .own .ensures, ← c .before .before .before .before .without .ensures) (λ h. omega (arith, h, c .if2 .left)))) i (omega arith),
     )
 
 add-w : tie.Need-add-w Inv-loop μ-loop Inv-scan μ-scan
@@ -94,10 +97,10 @@ scan-less : tie.Need-scan-less Inv-loop μ-loop Inv-scan μ-scan
 scan-less c = search needs
 
 scan-again : tie.Need-scan-again Inv-loop μ-loop Inv-scan μ-scan
-scan-again c = let s = c .before .before .before .before .before .scan in
-    let a = c .before .before .before .before .before .before .before .args in
+scan-again c = let s = c .before .before .before .before .before .before .scan in
+    let a = c .before .before .before .before .before .before .before .before .args in
     ⊎-elim (λ z. (omega arith, z .3 ∙ z .1 .inv .1, λ i h. z .1 .inv .2 i (omega (arith, z .1 .inv .0, z .2 .left))))
-    (λ z. (omega arith, z .1 ∙ s .inv .1, other-none (now (a .work)) (a .r) (a .v - 1) (s .w) (rw (← c .before .own .ensures) (z .0 .left)) (s .inv .2))) (c .if1 .came)
+    (λ z. (omega arith, z .1 ∙ s .inv .1, other-none (now (a .work)) (a .r) (a .v - 1) (s .w) (rw (← c .before .before .own .ensures, ← c .before .without .ensures) (z .0 .left)) (s .inv .2))) (c .if1 .came)
 
 returns : tie.Need-returns Inv-loop μ-loop Inv-scan μ-scan
 returns c = let s = c .before .scan in
@@ -105,9 +108,9 @@ returns c = let s = c .before .scan in
 
 returns-2 : tie.Need-returns-2 Inv-loop μ-loop Inv-scan μ-scan
 returns-2 c = let l = c .before .before .loop in
-    let s = c .before .before .before .before .before .before .before .before .scan in
-    let a = c .before .before .before .before .before .before .before .before .before .before .args in
-    let y = other-yes (now (a .work)) (a .r) (a .v - 1) (s .w) (l .b) (omega arith) (rw (← c .before .before .before .before .own .ensures) (omega (arith, c .if2 .taken))) in
+    let s = c .before .before .before .before .before .before .before .before .before .scan in
+    let a = c .before .before .before .before .before .before .before .before .before .before .before .args in
+    let y = other-yes (now (a .work)) (a .r) (a .v - 1) (s .w) (l .b) (omega arith) (rw (← c .before .before .before .before .before .own .ensures, ← c .before .before .before .before .without .ensures) (omega (arith, c .if2 .taken))) in
     record {
       none = λ e. absurd (omega arith);
       some = λ i e. let q : i ≡ s .w * 64 + l .b = omega arith in rw q (omega arith, y .0, y .1);
@@ -124,13 +127,14 @@ partner-spec =
     μ-scan
     mul-a
     scan-holds
-    add-x
-    mul-x
-    shared-slice-read-x
-    add-y
-    mul-y
-    shared-slice-read-y
+    add-without
+    mul-without
+    shared-slice-read-without
+    add-without-2
+    mul-without-2
+    shared-slice-read-without-2
     own-requires
+    without-requires
     loop-holds
     sub-if2
     shr-if2

@@ -24,8 +24,13 @@ sub-one c = search needs
 shl-one : tie.Need-shl-one
 shl-one c = search needs
 
+without-requires : tie.Need-without-requires
+without-requires c κs = search needs
+
 returns-3 : tie.Need-returns-3
-returns-3 c = but-one _ _ _ (omega arith) (omega arith)
+returns-3 c = rw (c .without .ensures) (but-one _ _ _ (omega arith) (omega arith))
 
 pub but-spec : {M : Type 1} → statement M
-but-spec = tie.close (tie.spec returns add-if2 returns-2 add-one sub-one shl-one returns-3)
+but-spec =
+    tie.close
+    (tie.spec returns add-if2 returns-2 add-one sub-one shl-one without-requires returns-3)

@@ -20,14 +20,14 @@ abbrev μ-loop : tie.MeasureT-loop
 
 -- the turn of the loop
 more : (c : tie.After-list-word-arg Inv-loop μ-loop)
-    → let a = c .before .before .before .before .before .before .before .before .before .before .before .args in
-    let l = c .before .before .before .before .before .before .before .loop in
+    → let a = c .before .before .before .before .before .before .before .before .before .before .before .before .args in
+    let l = c .before .before .before .before .before .before .before .before .loop in
     let x = c .before .before .first-ones .result in
     Step (news (a .work .now) (a .old .now) (a .v)) (a .n) 0 (l .w) (a .out .now) (l .out) (l .c) (items 64 x (bitXor x (getD (a .work .now) (truthAt + l .w) 0)) 2 (l .w * 64))
 more c =
-    let a = c .before .before .before .before .before .before .before .before .before .before .before .args in
-    let l = c .before .before .before .before .before .before .before .loop in
-    new-step (a .n) (l .w) _ _ (omega arith) (c .before .before .first-ones .ensures) (a .work .now) (a .out .now) (l .out) (l .c) (omega arith) (a .old .now) _ (a .v) (l .inv) (c .before .before .before .but .ensures) (omega arith)
+    let a = c .before .before .before .before .before .before .before .before .before .before .before .before .args in
+    let l = c .before .before .before .before .before .before .before .before .loop in
+    new-step (a .n) (l .w) _ _ (omega arith) (c .before .before .first-ones .ensures) (a .work .now) (a .out .now) (l .out) (l .c) (omega arith) (a .old .now) _ (a .v) (l .inv) (rw (c .before .before .before .before .without .ensures) at (c .before .before .before .but .ensures)) (omega arith)
 
 loop-holds : tie.Need-loop-holds Inv-loop μ-loop
 loop-holds c = scan-start (scanned-grows _ _) _ _ _ (omega arith)
@@ -38,20 +38,23 @@ mul-loop c = search needs
 mul-base : tie.Need-mul-base Inv-loop μ-loop
 mul-base c = search needs
 
-add-known : tie.Need-add-known Inv-loop μ-loop
-add-known c = search needs
+add-without : tie.Need-add-without Inv-loop μ-loop
+add-without c = search needs
 
-mul-known : tie.Need-mul-known Inv-loop μ-loop
-mul-known c = search needs
+mul-without : tie.Need-mul-without Inv-loop μ-loop
+mul-without c = search needs
 
-shared-slice-read-known : tie.Need-shared-slice-read-known Inv-loop μ-loop
-shared-slice-read-known c = search needs
+shared-slice-read-without : tie.Need-shared-slice-read-without Inv-loop μ-loop
+shared-slice-read-without c = search needs
 
-mul-fresh : tie.Need-mul-fresh Inv-loop μ-loop
-mul-fresh c = search needs
+mul-without-2 : tie.Need-mul-without-2 Inv-loop μ-loop
+mul-without-2 c = search needs
 
-shared-slice-read-fresh : tie.Need-shared-slice-read-fresh Inv-loop μ-loop
-shared-slice-read-fresh c = search needs
+shared-slice-read-without-2 : tie.Need-shared-slice-read-without-2 Inv-loop μ-loop
+shared-slice-read-without-2 c = search needs
+
+without-requires : tie.Need-without-requires Inv-loop μ-loop
+without-requires c κs = search needs
 
 but-requires : tie.Need-but-requires Inv-loop μ-loop
 but-requires c κs = search needs
@@ -98,11 +101,12 @@ list-new-spec =
     loop-holds
     mul-loop
     mul-base
-    add-known
-    mul-known
-    shared-slice-read-known
-    mul-fresh
-    shared-slice-read-fresh
+    add-without
+    mul-without
+    shared-slice-read-without
+    mul-without-2
+    shared-slice-read-without-2
+    without-requires
     but-requires
     sub-first-ones
     first-ones-requires

@@ -25,34 +25,37 @@ mul-a c = search needs
 loop-holds : tie.Need-loop-holds Inv-loop μ-loop
 loop-holds c = (omega arith, λ i h. absurd (omega arith))
 
-add-x : tie.Need-add-x Inv-loop μ-loop
-add-x c = search needs
+add-without : tie.Need-add-without Inv-loop μ-loop
+add-without c = search needs
 
-mul-x : tie.Need-mul-x Inv-loop μ-loop
-mul-x c = search needs
+mul-without : tie.Need-mul-without Inv-loop μ-loop
+mul-without c = search needs
 
-shared-slice-read-x : tie.Need-shared-slice-read-x Inv-loop μ-loop
-shared-slice-read-x c = search needs
+shared-slice-read-without : tie.Need-shared-slice-read-without Inv-loop μ-loop
+shared-slice-read-without c = search needs
 
-add-y : tie.Need-add-y Inv-loop μ-loop
-add-y c = search needs
+add-without-2 : tie.Need-add-without-2 Inv-loop μ-loop
+add-without-2 c = search needs
 
-mul-y : tie.Need-mul-y Inv-loop μ-loop
-mul-y c = search needs
+mul-without-2 : tie.Need-mul-without-2 Inv-loop μ-loop
+mul-without-2 c = search needs
 
-shared-slice-read-y : tie.Need-shared-slice-read-y Inv-loop μ-loop
-shared-slice-read-y c = search needs
+shared-slice-read-without-2 : tie.Need-shared-slice-read-without-2 Inv-loop μ-loop
+shared-slice-read-without-2 c = search needs
+
+without-requires : tie.Need-without-requires Inv-loop μ-loop
+without-requires c κs = search needs
 
 own-requires : tie.Need-own-requires Inv-loop μ-loop
 own-requires c κs = search needs
 
 returns : tie.Need-returns Inv-loop μ-loop
-returns c = let s = c .before .before .before .before .before .before .before in
+returns c = let s = c .before .before .before .before .before .before .before .before in
     let a = s .args in
-    let l = c .before .before .before .before .before .loop in
+    let l = c .before .before .before .before .before .before .loop in
     record {
       yes = λ e. absurd (false≢true e);
-      no = λ e h. c .if1 .taken (rw (c .before .own .ensures) (word-bad (now (a .work)) (a .r) (a .v - 1) (l .j) (omega arith) (c .before .before .shared-slice-known3 .given (rowAt (a .r) + l .j) .fits) h));
+      no = λ e h. c .if1 .taken (rw (c .before .before .without .ensures, c .before .own .ensures) (word-bad (now (a .work)) (a .r) (a .v - 1) (l .j) (omega arith) (c .before .before .before .shared-slice-known3 .given (rowAt (a .r) + l .j) .fits) h));
     }
 
 add-j : tie.Need-add-j Inv-loop μ-loop
@@ -62,9 +65,9 @@ loop-less : tie.Need-loop-less Inv-loop μ-loop
 loop-less c = search needs
 
 loop-again : tie.Need-loop-again Inv-loop μ-loop
-loop-again c = let a = c .before .before .before .before .before .before .before .args in
-    let l = c .before .before .before .before .before .loop in
-    (omega arith, full-more (now (a .work)) (a .r) (a .v - 1) (l .j) (l .inv .1) (rw (← c .before .own .ensures) (c .if1 .left)))
+loop-again c = let a = c .before .before .before .before .before .before .before .before .args in
+    let l = c .before .before .before .before .before .before .loop in
+    (omega arith, full-more (now (a .work)) (a .r) (a .v - 1) (l .j) (l .inv .1) (rw (← c .before .own .ensures, ← c .before .before .without .ensures) (c .if1 .left)))
 
 returns-2 : tie.Need-returns-2 Inv-loop μ-loop
 returns-2 c = record { yes = λ e i h. c .before .loop .inv .1 i (omega arith); no = λ e. absurd (true≢false e) }
@@ -77,12 +80,13 @@ alone-spec =
     μ-loop
     mul-a
     loop-holds
-    add-x
-    mul-x
-    shared-slice-read-x
-    add-y
-    mul-y
-    shared-slice-read-y
+    add-without
+    mul-without
+    shared-slice-read-without
+    add-without-2
+    mul-without-2
+    shared-slice-read-without-2
+    without-requires
     own-requires
     returns
     add-j

@@ -19,12 +19,15 @@ sub-own c = search needs
 own-requires : tie.Need-own-requires
 own-requires c κs = search needs
 
+without-requires : tie.Need-without-requires
+without-requires c κs = search needs
+
 returns : tie.Need-returns
-returns c = let a = c .before .before .before .before .args in
-    let f : Fits w64 (c .before .before .overlay .result) = search needs in
+returns c = let a = c .before .before .before .before .before .args in
+    let f : Fits w64 (c .before .before .before .overlay .result) = search needs in
     record {
       yes = λ e. absurd (false≢true e);
-      no = λ e h. c .if1 .taken (rw (c .before .own .ensures) (overlay-bad (now (a .work)) (a .r) (a .v - 1) (c .before .before .overlay .result) (f .fits) (c .before .before .overlay .ensures) h));
+      no = λ e h. c .if1 .taken (rw (c .before .without .ensures, c .before .before .own .ensures) (overlay-bad (now (a .work)) (a .r) (a .v - 1) (c .before .before .before .overlay .result) (f .fits) (c .before .before .before .overlay .ensures) h));
     }
 
 alone-requires : tie.Need-alone-requires
@@ -35,4 +38,4 @@ returns-2 c = search needs
 
 pub full-spec : {M : Type 1} → statement M
 full-spec =
-    tie.close (tie.spec overlay-requires sub-own own-requires returns alone-requires returns-2)
+    tie.close (tie.spec overlay-requires sub-own own-requires without-requires returns alone-requires returns-2)

@@ -22,23 +22,26 @@ mul-a c = search needs
 loop-holds : tie.Need-loop-holds Inv-loop μ-loop
 loop-holds c = (omega arith, overlay-none _ _)
 
-add-x : tie.Need-add-x Inv-loop μ-loop
-add-x c = search needs
+add-without : tie.Need-add-without Inv-loop μ-loop
+add-without c = search needs
 
-mul-x : tie.Need-mul-x Inv-loop μ-loop
-mul-x c = search needs
+mul-without : tie.Need-mul-without Inv-loop μ-loop
+mul-without c = search needs
 
-shared-slice-read-x : tie.Need-shared-slice-read-x Inv-loop μ-loop
-shared-slice-read-x c = search needs
+shared-slice-read-without : tie.Need-shared-slice-read-without Inv-loop μ-loop
+shared-slice-read-without c = search needs
 
-add-y : tie.Need-add-y Inv-loop μ-loop
-add-y c = search needs
+add-without-2 : tie.Need-add-without-2 Inv-loop μ-loop
+add-without-2 c = search needs
 
-mul-y : tie.Need-mul-y Inv-loop μ-loop
-mul-y c = search needs
+mul-without-2 : tie.Need-mul-without-2 Inv-loop μ-loop
+mul-without-2 c = search needs
 
-shared-slice-read-y : tie.Need-shared-slice-read-y Inv-loop μ-loop
-shared-slice-read-y c = search needs
+shared-slice-read-without-2 : tie.Need-shared-slice-read-without-2 Inv-loop μ-loop
+shared-slice-read-without-2 c = search needs
+
+without-requires : tie.Need-without-requires Inv-loop μ-loop
+without-requires c κs = search needs
 
 add-j : tie.Need-add-j Inv-loop μ-loop
 add-j c = search needs
@@ -47,9 +50,9 @@ loop-less : tie.Need-loop-less Inv-loop μ-loop
 loop-less c = search needs
 
 loop-again : tie.Need-loop-again Inv-loop μ-loop
-loop-again c = let a = c .before .before .before .before .args in
-    let l = c .before .before .before .loop in
-    (omega arith, overlay-more (now (a .work)) (a .r) (l .j) (l .over) (l .inv .1))
+loop-again c = let a = c .before .before .before .before .before .before .args in
+    let l = c .before .before .before .before .loop in
+    (omega arith, rw (c .without .ensures) (overlay-more (now (a .work)) (a .r) (l .j) (l .over) (l .inv .1)))
 
 returns : tie.Need-returns Inv-loop μ-loop
 returns c = let e : c .before .loop .j ≡ 8 = omega arith in rw e at (c .before .loop .inv .1)
@@ -62,12 +65,13 @@ overlay-spec =
     μ-loop
     mul-a
     loop-holds
-    add-x
-    mul-x
-    shared-slice-read-x
-    add-y
-    mul-y
-    shared-slice-read-y
+    add-without
+    mul-without
+    shared-slice-read-without
+    add-without-2
+    mul-without-2
+    shared-slice-read-without-2
+    without-requires
     add-j
     loop-less
     loop-again
