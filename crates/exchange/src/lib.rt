@@ -24,7 +24,7 @@ ghost use Rattle.tableau.specs.Buffer.{Span};
 ghost use Rattle.exchange.specs.Steps.{Partner, First, Found, pointed, RowTurned, Turned, Took, Stepped};
 
 // The lowest variable of row r that has no value and is not v, or 0. On a state of the module, where v is basic in row r, it is not basic.
-pub fn partner(work: &[u64], r: usize, v: usize) -> usize
+fn partner(work: &[u64], r: usize, v: usize) -> usize
     requires { ⌜ (size ≤ length (now work)) × (r < maxRows) × (0 < v) × (v ≤ maxVars) ⌝ }
     ensures { λ x. ⌜ Partner (now (work .entry)) r (v - 1) x ⌝ }
 {
@@ -49,7 +49,7 @@ pub fn partner(work: &[u64], r: usize, v: usize) -> usize
 }
 
 // The first row below k that has the variable v, or k.
-pub fn first(work: &[u64], k: usize, v: usize) -> usize
+fn first(work: &[u64], k: usize, v: usize) -> usize
     requires { ⌜ (size ≤ length (now work)) × (k ≤ maxRows) × (0 < v) × (v ≤ maxVars) ⌝ }
     ensures { λ x. ⌜ First (now (work .entry)) k (v - 1) x ⌝ }
 {
@@ -64,7 +64,7 @@ pub fn first(work: &[u64], k: usize, v: usize) -> usize
 }
 
 // The row below k whose basic variable is v, or k. A basic variable stands in no other row, so the first row a that has v decides.
-pub fn own_row(work: &[u64], k: usize, v: usize, a: usize) -> usize
+fn own_row(work: &[u64], k: usize, v: usize, a: usize) -> usize
     requires { ⌜ (size ≤ length (now work)) × (k ≤ maxRows) × First (now work) k (v - 1) a ⌝ }
     ensures { λ x. ⌜ Found (now (work .entry)) k v x ⌝ }
 {
@@ -95,7 +95,7 @@ pub fn point(work: &mut [u64], p: usize, u: usize)
 }
 
 // Row r has the variable u. Row p is added into it, or u becomes its basic variable if it is row p; it then gives its basic variable a value, if it does.
-pub fn turn_row(work: &mut [u64], p: usize, u: usize, r: usize)
+fn turn_row(work: &mut [u64], p: usize, u: usize, r: usize)
     requires { ⌜ (size ≤ length (now work)) × (p < maxRows) × (r < maxRows) × (u ≤ maxVars) × (bitAt (now work) (rowAt r) (u - 1) ≡ true) ⌝ }
     ensures { λ _. ⌜ RowTurned p u r (now (work .entry)) (now (work .exit)) ⌝ }
 {
@@ -108,7 +108,7 @@ pub fn turn_row(work: &mut [u64], p: usize, u: usize, r: usize)
 }
 
 // Each row from q to below e, 64 at most, that has the variable u is turned; row p, which has it, too if it is one of them.
-pub fn turn_block(work: &mut [u64], q: usize, e: usize, p: usize, u: usize)
+fn turn_block(work: &mut [u64], q: usize, e: usize, p: usize, u: usize)
     requires { ⌜ (size ≤ length (now work)) × (q < e) × (e ≤ q + 64) × (e ≤ maxRows) × (p < maxRows) × (0 < u) × (u ≤ maxVars) × (bitAt (now work) (rowAt p) (u - 1) ≡ true) ⌝ }
     ensures { λ _. ⌜ Span (RowTurned p u) q (e - q) (now (work .entry)) (now (work .exit)) ⌝ }
 {
@@ -121,7 +121,7 @@ pub fn turn_block(work: &mut [u64], q: usize, e: usize, p: usize, u: usize)
 }
 
 // Variable v, basic in row p, gets the value b, and u, which row p has, becomes basic there: an exchange and the settling in one pass, since v is then in the rows that change and in no other.
-pub fn turn(work: &mut [u64], k: usize, p: usize, u: usize, v: usize, b: bool)
+fn turn(work: &mut [u64], k: usize, p: usize, u: usize, v: usize, b: bool)
     requires { ⌜ (size ≤ length (now work)) × (k ≤ maxRows) × (p < k) × (0 < u) × (u ≤ maxVars) × (0 < v) × (v ≤ maxVars) × (bitAt (now work) (rowAt p) (u - 1) ≡ true) ⌝ }
     ensures { λ _. ⌜ Turned k p u (v - 1) b (now (work .entry)) (now (work .exit)) ⌝ }
 {
@@ -135,7 +135,7 @@ pub fn turn(work: &mut [u64], k: usize, p: usize, u: usize, v: usize, b: bool)
 }
 
 // A literal whose variable has no value is taken at depth d, if it can be.
-pub fn take(work: &mut [u64], k: usize, d: usize, code: usize) -> bool
+fn take(work: &mut [u64], k: usize, d: usize, code: usize) -> bool
     requires { ⌜ (size ≤ length (now work)) × (k ≤ maxRows) × (d < maxTaken) × (2 ≤ code) × (code < 2 * maxVars + 2) ⌝ }
     ensures { λ x. ⌜ Took k d code (now (work .entry)) (now (work .exit)) x ⌝ }
 {

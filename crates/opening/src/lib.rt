@@ -23,7 +23,7 @@ ghost use Rattle.exchange.specs.Steps.{RowCleared, Exchanged};
 ghost use Rattle.opening.specs.Opened.{Basics, Loaded, Reduced, RowDone, Answered};
 
 // The provenance of row k becomes row q of the sheet alone.
-pub fn mark_row(work: &mut [u64], q: usize, k: usize)
+fn mark_row(work: &mut [u64], q: usize, k: usize)
     requires { ⌜ (size ≤ length (now work)) × (q < maxRows) × (k < maxRows) ⌝ }
     ensures { λ _. ⌜ Run (fromAt k) fromWords (λ j. ownWord q j) (now (work .entry)) (now (work .exit)) ⌝ }
 {
@@ -36,7 +36,7 @@ pub fn mark_row(work: &mut [u64], q: usize, k: usize)
 }
 
 // Row q of the row store stands as row k.
-pub fn load_row(work: &mut [u64], rows: &[u64], q: usize, k: usize)
+fn load_row(work: &mut [u64], rows: &[u64], q: usize, k: usize)
     requires { ⌜ (size ≤ length (now work)) × (9 * q + 9 ≤ length (now rows)) × (q < maxRows) × (k < maxRows) ⌝ }
     ensures { λ _. ⌜ Loaded q k (now (rows .entry)) (now (work .entry)) (now (work .exit)) ⌝ }
 {
@@ -47,7 +47,7 @@ pub fn load_row(work: &mut [u64], rows: &[u64], q: usize, k: usize)
 }
 
 // Row r is added into row k, if that has its basic variable.
-pub fn reduce_by(work: &mut [u64], k: usize, r: usize)
+fn reduce_by(work: &mut [u64], k: usize, r: usize)
     requires { ⌜ (size ≤ length (now work)) × (k < maxRows) × (r < k) × (0 < basicAt (now work) r) × (basicAt (now work) r ≤ maxVars) ⌝ }
     ensures { λ _. ⌜ Reduced k r (now (work .entry)) (now (work .exit)) ⌝ }
 {
@@ -63,7 +63,7 @@ pub fn reduce_by(work: &mut [u64], k: usize, r: usize)
 }
 
 // Row k is reduced by the rows before it.
-pub fn reduce(work: &mut [u64], k: usize)
+fn reduce(work: &mut [u64], k: usize)
     requires { ⌜ (size ≤ length (now work)) × (k < maxRows) × Basics k (now work) ⌝ }
     ensures { λ _. ⌜ Chain (Reduced k) k (now (work .entry)) (now (work .exit)) ⌝ }
 {
@@ -75,7 +75,7 @@ pub fn reduce(work: &mut [u64], k: usize)
 }
 
 // Row k is added into row r, which is before it, if that has the variable v.
-pub fn clear_row(work: &mut [u64], k: usize, v: usize, r: usize)
+fn clear_row(work: &mut [u64], k: usize, v: usize, r: usize)
     requires { ⌜ (size ≤ length (now work)) × (k < maxRows) × (r < k) × (0 < v) × (v ≤ maxVars) ⌝ }
     ensures { λ _. ⌜ RowCleared k (v - 1) r (now (work .entry)) (now (work .exit)) ⌝ }
 {
@@ -85,7 +85,7 @@ pub fn clear_row(work: &mut [u64], k: usize, v: usize, r: usize)
 }
 
 // Whether row r or the next one has the variable v.
-pub fn in_two(work: &[u64], v: usize, r: usize) -> bool
+fn in_two(work: &[u64], v: usize, r: usize) -> bool
     requires { ⌜ (size ≤ length (now work)) × (r + 2 ≤ maxRows) × (0 < v) × (v ≤ maxVars) ⌝ }
     ensures { λ x. ⌜ x ≡ (bitAt (now (work .entry)) (rowAt r) (v - 1) || bitAt (now (work .entry)) (rowAt (r + 1)) (v - 1)) ⌝ }
 {
@@ -96,7 +96,7 @@ pub fn in_two(work: &[u64], v: usize, r: usize) -> bool
 }
 
 // Row k is added into row r and into the next one, if they have the variable v. Mostly neither has, which one test tells.
-pub fn clear_two(work: &mut [u64], k: usize, v: usize, r: usize)
+fn clear_two(work: &mut [u64], k: usize, v: usize, r: usize)
     requires { ⌜ (size ≤ length (now work)) × (k < maxRows) × (r + 2 ≤ k) × (0 < v) × (v ≤ maxVars) ⌝ }
     ensures { λ _. ⌜ Span (RowCleared k (v - 1)) r 2 (now (work .entry)) (now (work .exit)) ⌝ }
 {
@@ -107,7 +107,7 @@ pub fn clear_two(work: &mut [u64], k: usize, v: usize, r: usize)
 }
 
 // Row k is added into each row below f, an even number, that has the variable v.
-pub fn clear_twos(work: &mut [u64], k: usize, v: usize, f: usize)
+fn clear_twos(work: &mut [u64], k: usize, v: usize, f: usize)
     requires { ⌜ (size ≤ length (now work)) × (k < maxRows) × (f ≤ k) × (f % 2 ≡ 0) × (0 < v) × (v ≤ maxVars) ⌝ }
     ensures { λ _. ⌜ Chain (RowCleared k (v - 1)) f (now (work .entry)) (now (work .exit)) ⌝ }
 {
@@ -119,7 +119,7 @@ pub fn clear_twos(work: &mut [u64], k: usize, v: usize, f: usize)
 }
 
 // Row k is added into each row before it that has the variable v.
-pub fn clear_rows(work: &mut [u64], k: usize, v: usize)
+fn clear_rows(work: &mut [u64], k: usize, v: usize)
     requires { ⌜ (size ≤ length (now work)) × (k < maxRows) × (0 < v) × (v ≤ maxVars) ⌝ }
     ensures { λ _. ⌜ Chain (RowCleared k (v - 1)) k (now (work .entry)) (now (work .exit)) ⌝ }
 {
@@ -131,7 +131,7 @@ pub fn clear_rows(work: &mut [u64], k: usize, v: usize)
 }
 
 // Variable u becomes basic in row k, the last, and is removed from the rows before it.
-pub fn enter(work: &mut [u64], k: usize, u: usize)
+fn enter(work: &mut [u64], k: usize, u: usize)
     requires { ⌜ (size ≤ length (now work)) × (k < maxRows) × (0 < u) × (u ≤ maxVars) ⌝ }
     ensures { λ _. ⌜ Exchanged (k + 1) k u (now (work .entry)) (now (work .exit)) ⌝ }
 {
@@ -147,7 +147,7 @@ pub enum RowCase {
 }
 
 // Row q of the row store goes in, with k rows kept so far; if it is kept it is row k.
-pub fn open_row(work: &mut [u64], rows: &[u64], q: usize, k: usize) -> RowCase
+fn open_row(work: &mut [u64], rows: &[u64], q: usize, k: usize) -> RowCase
     requires { ⌜ (size ≤ length (now work)) × (9 * q + 9 ≤ length (now rows)) × (q < maxRows) × (k < maxRows) × Basics k (now work) ⌝ }
     ensures { λ x. ⌜ RowDone q k (now (rows .entry)) (now (work .entry)) (now (work .exit)) x ⌝ }
 {

@@ -36,7 +36,7 @@ pub fn put(work: &mut [u64], v: usize, b: bool)
 }
 
 // The variables of row r without a value, its eight words laid over one another.
-pub fn overlay(work: &[u64], r: usize) -> u64
+fn overlay(work: &[u64], r: usize) -> u64
     requires { ⌜ (size ≤ length (now work)) × (r < maxRows) ⌝ }
     ensures { λ x. ⌜ Overlay coefWords (now (work .entry)) r x ⌝ }
 {
@@ -51,7 +51,7 @@ pub fn overlay(work: &[u64], r: usize) -> u64
 }
 
 // Whether v is the one variable of row r without a value, word by word.
-pub fn alone(work: &[u64], r: usize, v: usize) -> bool
+fn alone(work: &[u64], r: usize, v: usize) -> bool
     requires { ⌜ (size ≤ length (now work)) × (r < maxRows) × (0 < v) × (v ≤ maxVars) ⌝ }
     ensures { λ x. ⌜ Full (now (work .entry)) r (v - 1) x ⌝ }
 {
@@ -68,7 +68,7 @@ pub fn alone(work: &[u64], r: usize, v: usize) -> bool
 }
 
 // Whether v is the one variable of row r without a value. Most rows have another at another place of its word, which one test tells.
-pub fn full(work: &[u64], r: usize, v: usize) -> bool
+fn full(work: &[u64], r: usize, v: usize) -> bool
     requires { ⌜ (size ≤ length (now work)) × (r < maxRows) × (0 < v) × (v ≤ maxVars) ⌝ }
     ensures { λ x. ⌜ Full (now (work .entry)) r (v - 1) x ⌝ }
 {
@@ -81,7 +81,7 @@ pub fn full(work: &[u64], r: usize, v: usize) -> bool
 }
 
 // The value that row r gives its basic variable, which counts as false so far.
-pub fn value(work: &[u64], r: usize) -> bool
+fn value(work: &[u64], r: usize) -> bool
     requires { ⌜ (size ≤ length (now work)) × (r < maxRows) ⌝ }
     ensures { λ x. ⌜ x ≡ valueAt (now (work .entry)) r ⌝ }
 {
@@ -90,7 +90,7 @@ pub fn value(work: &[u64], r: usize) -> bool
 }
 
 // The basic variable of row r if it alone has no value in its row, else 0.
-pub fn ready(work: &[u64], r: usize) -> usize
+fn ready(work: &[u64], r: usize) -> usize
     requires { ⌜ (size ≤ length (now work)) × (r < maxRows) ⌝ }
     ensures { λ x. ⌜ Ready (now (work .entry)) r x ⌝ }
 {
@@ -118,7 +118,7 @@ pub fn settle_row(work: &mut [u64], r: usize)
 }
 
 // Every row below k gives its basic variable a value, if it does.
-pub fn settle(work: &mut [u64], k: usize)
+fn settle(work: &mut [u64], k: usize)
     requires { ⌜ (size ≤ length (now work)) × (k ≤ maxRows) ⌝ }
     ensures { λ _. ⌜ Chain RowSettled k (now (work .entry)) (now (work .exit)) ⌝ }
 {
@@ -130,7 +130,7 @@ pub fn settle(work: &mut [u64], k: usize)
 }
 
 // No variable has a value.
-pub fn clear_values(work: &mut [u64])
+fn clear_values(work: &mut [u64])
     requires { ⌜ size ≤ length (now work) ⌝ }
     ensures { λ _. ⌜ Run knownAt (2 * coefWords) (λ i. 0) (now (work .entry)) (now (work .exit)) ⌝ }
 {
@@ -142,7 +142,7 @@ pub fn clear_values(work: &mut [u64])
 }
 
 // The variable of entry j of the record gets its value, if the entry is a literal.
-pub fn put_entry(work: &mut [u64], j: usize)
+fn put_entry(work: &mut [u64], j: usize)
     requires { ⌜ (size ≤ length (now work)) × (j < maxTaken) ⌝ }
     ensures { λ _. ⌜ EntrySet j (now (work .entry)) (now (work .exit)) ⌝ }
 {
@@ -156,7 +156,7 @@ pub fn put_entry(work: &mut [u64], j: usize)
 }
 
 // The variables of the first d entries of the record get their values.
-pub fn put_entries(work: &mut [u64], d: usize)
+fn put_entries(work: &mut [u64], d: usize)
     requires { ⌜ (size ≤ length (now work)) × (d ≤ maxTaken) ⌝ }
     ensures { λ _. ⌜ Chain EntrySet d (now (work .entry)) (now (work .exit)) ⌝ }
 {
@@ -178,7 +178,7 @@ pub fn restart(work: &mut [u64], k: usize, d: usize)
 }
 
 // Each row from q to below e, 64 at most, that has the variable v gives its basic variable a value, if it does.
-pub fn follow_block(work: &mut [u64], q: usize, e: usize, v: usize)
+fn follow_block(work: &mut [u64], q: usize, e: usize, v: usize)
     requires { ⌜ (size ≤ length (now work)) × (q < e) × (e ≤ q + 64) × (e ≤ maxRows) × (0 < v) × (v ≤ maxVars) ⌝ }
     ensures { λ _. ⌜ Span (RowFollowed (v - 1)) q (e - q) (now (work .entry)) (now (work .exit)) ⌝ }
 {

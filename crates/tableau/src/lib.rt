@@ -14,7 +14,7 @@ pub const COEF_WORDS: usize = 8;
 // Words of a bit for each row.
 pub const FROM_WORDS: usize = 4;
 // The most rows.
-pub const MAX_ROWS: usize = 256;
+const MAX_ROWS: usize = 256;
 // Where in a row its provenance starts.
 pub const FROM: usize = COEF_WORDS;
 // Where in a row its last word stands: 2 × basic variable + parity.
@@ -26,12 +26,12 @@ pub const KNOWN: usize = ROW * MAX_ROWS;
 // Where the true ones of them start.
 pub const TRUTH: usize = KNOWN + COEF_WORDS;
 // Where the record of taken literals starts.
-pub const RECORD: usize = TRUTH + COEF_WORDS;
+const RECORD: usize = TRUTH + COEF_WORDS;
 // The words in use.
 pub const SIZE: usize = 4096;
 
 // `count` words of `source` from place `start` go to `target` from place `at`.
-pub fn copy(target: &mut [u64], at: usize, source: &[u64], start: usize, count: usize)
+fn copy(target: &mut [u64], at: usize, source: &[u64], start: usize, count: usize)
     requires { ⌜ (at + count ≤ length (now target)) × (start + count ≤ length (now source)) ⌝ }
     ensures { λ _. ⌜ Run at count (λ j. getD (now (source .entry)) (start + j) 0) (now (target .entry)) (now (target .exit)) ⌝ }
 {
@@ -69,7 +69,7 @@ pub fn store(work: &mut [u64], r: usize, row: [u64; 8])
 }
 
 // The provenance of row r.
-pub fn load_from(work: &[u64], r: usize) -> [u64; 4]
+fn load_from(work: &[u64], r: usize) -> [u64; 4]
     requires { ⌜ (size ≤ length (now work)) × (r < maxRows) ⌝ }
     ensures { λ x. ⌜ Reads fromWords (now (work .entry)) (fromAt r) x ⌝ }
 {
@@ -79,7 +79,7 @@ pub fn load_from(work: &[u64], r: usize) -> [u64; 4]
 }
 
 // The provenance of row r becomes `from`.
-pub fn store_from(work: &mut [u64], r: usize, from: [u64; 4])
+fn store_from(work: &mut [u64], r: usize, from: [u64; 4])
     requires { ⌜ (size ≤ length (now work)) × (r < maxRows) ⌝ }
     ensures { λ _. ⌜ Run (fromAt r) fromWords (λ j. getD from (0 + j) 0) (now (work .entry)) (now (work .exit)) ⌝ }
 {

@@ -8,7 +8,7 @@ ghost use Rattle.gf2.specs.Field.{xsum};
 ghost use Rattle.words.specs.Words.{bitAt, xorWords, ownWord, Lowest};
 
 // The words of b are added into those of a, of which there are as many.
-pub fn add_into(a: &mut [u64], b: &[u64])
+fn add_into(a: &mut [u64], b: &[u64])
     requires { ⌜ length (now a) ≡ length (now b) ⌝ }
     ensures { λ _. ⌜ now (a .exit) ≡ xorWords (now (a .entry)) (now (b .entry)) ⌝ }
 {
