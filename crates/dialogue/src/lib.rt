@@ -6,7 +6,6 @@ ghost use lib.ListN.{length};
 ghost use Rattle.lines.specs.Lines.{Put, text};
 ghost use Rattle.dialogue.specs.Dialogue.{sheetEnd, commandOf, saidOpening, saidAssuming, saidBacking, saidExplaining, goesOn};
 ghost use Rattle.dialogue.specs.Steps.{room, OpeningFits, AssumingFits, ExplainingFits, Begins, Assumes, Backs, Explains, Turns};
-use cursor::Cursor;
 use judge::Header;
 use parity::Assuming;
 use parity::Explaining;
@@ -28,14 +27,9 @@ pub fn sheet_end(s: &[u8]) -> usize
     if s.len() < 3 {
         return s.len();
     }
-    let start = Cursor { at: 0 };
-    let f = start.field(s, 10);
-    let c = f.next;
-    let g = c.field(s, 9);
-    let n = f.value as usize;
-    let m = g.value as usize;
-    let size = (19 + m * (n + 1) + 7) / 8;
-    if size < s.len() { size } else { s.len() }
+    let h = sheet::head_of(s);
+    let size = sheet::size_for(h.n, h.m);
+    bits::shorter(size, s.len())
 }
 
 // The command of two bytes.

@@ -4,7 +4,7 @@ ghost use mathlib.Core.List.{[], _∷_, _++_};
 ghost use Prim.Native.Nat.{_+_, _*_, _^_, _≤_, _<_};
 ghost use lib.ListN.{length, take, drop};
 ghost use Rattle.format.specs.Bits.{bitsOf, putAt};
-ghost use Rattle.format.specs.Sheet.{bitsFor, sizeFor, rowWords, storeWords, rowBits, bodyBits, sheetBits, cleanRow, clean};
+ghost use Rattle.format.specs.Sheet.{nOf, mOf, bitsFor, sizeFor, rowWords, storeWords, rowBits, bodyBits, sheetBits, cleanRow, clean};
 ghost use Rattle.sheet.specs.Reader.{reading, Reads};
 ghost use Rattle.sheet.specs.Writer.{writing, Writes};
 ghost use Rattle.sheet.specs.Rewriter.{Rewrites};
@@ -17,6 +17,12 @@ pub struct Row {
     pub next: Cursor,
 }
 
+// The two numbers at the head of a sheet.
+pub struct Head {
+    pub n: usize,
+    pub m: usize,
+}
+
 // What the reader says: a refusal number of document 01, or that a sheet of n variables and m rows was read.
 pub enum Reading {
     Refused(u8),
@@ -27,6 +33,39 @@ pub enum Reading {
 pub enum Writing {
     Refused(u8),
     Written { size: usize },
+}
+
+// ---- the head, and the size that it says
+
+// n and m, as the first 19 bits say them.
+pub fn head_of(s: &[u8]) -> Head
+    requires { ⌜ 3 ≤ length (now s) ⌝ }
+    ensures { λ r. ⌜ (r .n ≡ nOf (now (s .entry))) × (r .m ≡ mOf (now (s .entry))) × (r .n < 1024) × (r .m < 512) ⌝ }
+{
+    let start = Cursor { at: 0 };
+    let f = start.field(s, 10);
+    let c = f.next;
+    let g = c.field(s, 9);
+    Head {
+        n: f.value as usize,
+        m: g.value as usize,
+    }
+}
+
+// How many bits a sheet of n variables and m rows means: of all that a head can say, also of what is refused.
+fn bits_for(n: usize, m: usize) -> usize
+    requires { ⌜ (n < 1024) × (m < 512) ⌝ }
+    ensures { λ r. ⌜ (r ≡ bitsFor n m) × (r < 2 ^ 19) ⌝ }
+{
+    19 + m * (n + 1)
+}
+
+// How many bytes hold them.
+pub fn size_for(n: usize, m: usize) -> usize
+    requires { ⌜ (n < 1024) × (m < 512) ⌝ }
+    ensures { λ r. ⌜ (r ≡ sizeFor n m) × (r ≤ 2 ^ 16) ⌝ }
+{
+    (bits_for(n, m) + 7) / 8
 }
 
 // ---- reading
@@ -81,20 +120,17 @@ pub fn judge(s: &[u8], room: usize) -> Reading
     if s.len() < 3 {
         return Reading::Refused(1);
     }
-    let start = Cursor { at: 0 };
-    let f = start.field(s, 10);
-    let c = f.next;
-    let g = c.field(s, 9);
-    let n = f.value as usize;
-    let m = g.value as usize;
+    let h = head_of(s);
+    let n = h.n;
+    let m = h.m;
     if 512 < n {
         return Reading::Refused(2);
     }
     if 256 < m {
         return Reading::Refused(3);
     }
-    let bits = 19 + m * (n + 1);
-    let size = (bits + 7) / 8;
+    let bits = bits_for(n, m);
+    let size = size_for(n, m);
     let words = 9 * m;
     if s.len() < size {
         return Reading::Refused(1);
@@ -186,9 +222,8 @@ fn emit(n: usize, m: usize, store: &[u64], out: &mut [u8])
     let head = start.put(out, n as u64, 10);
     let body = head.put(out, m as u64, 9);
     let end = put_rows(body, out, store, n, m);
-    let bits = end.at;
-    let size = (bits + 7) / 8;
-    end.put(out, 0, size * 8 - bits);
+    let size = size_for(n, m);
+    end.put(out, 0, size * 8 - end.at);
 }
 
 // Whether the row that stands in the store from base on has no bit past variable n and a parity of 0 or 1.
@@ -242,7 +277,7 @@ fn judge_write(n: usize, m: usize, store: &[u64], room: usize) -> Writing
     if !good {
         return Writing::Refused(5);
     }
-    let size = (19 + m * (n + 1) + 7) / 8;
+    let size = size_for(n, m);
     if room < size {
         return Writing::Refused(7);
     }

@@ -8,7 +8,6 @@ use borrow.Author.Needs.{needs}
 use borrow.Author.Tests.{lt-ltb, le-ltb}
 use denote.Ref.{now}
 use lib.ListN.{length}
-use Rattle.format.proofs.Accepted.{bits-bound}
 use Rattle.format.proofs.Clean.{not-true, not-false}
 use Rattle.format.specs.Sheet.{sizeFor, clean}
 use Rattle.sheet.proofs.judge_write.Statement.{statement}
@@ -44,29 +43,20 @@ returns-4 c =
     let e : clean (a .n) (a .m) (now (a .store)) ≡ false = sym (c .before .clean-rows .ensures) ∙ not-true (c .before .clean-rows .result) (c .if4 .taken) in
     simp (le-ltb 512 (a .n) (omega arith), le-ltb 256 (a .m) (omega arith), le-ltb (length (now (a .store))) (9 * a .m) (omega arith), e)
 
-add-size : tie.Need-add-size
-add-size c = search needs
-
-mul-size : tie.Need-mul-size
-mul-size c = let a = c .before .before .before .before .before .before .args in omega (arith, bits-bound (a .n) (a .m) (omega arith) (omega arith))
-
-add-size-2 : tie.Need-add-size-2
-add-size-2 c = let a = c .before .before .before .before .before .before .args in omega (arith, bits-bound (a .n) (a .m) (omega arith) (omega arith))
-
-add-size-3 : tie.Need-add-size-3
-add-size-3 c = let a = c .before .before .before .before .before .before .args in omega (arith, bits-bound (a .n) (a .m) (omega arith) (omega arith))
+size-for-requires : tie.Need-size-for-requires
+size-for-requires c κs = search needs
 
 returns-5 : tie.Need-returns-5
 returns-5 c =
-    let a = c .before .before .before .before .before .before .before .args in
-    let e : clean (a .n) (a .m) (now (a .store)) ≡ true = is-clean (c .before) in
-    simp (le-ltb 512 (a .n) (omega arith), le-ltb 256 (a .m) (omega arith), le-ltb (length (now (a .store))) (9 * a .m) (omega arith), e, lt-ltb (a .room) (sizeFor (a .n) (a .m)) (omega arith))
+    let a = c .before .before .before .before .before .before .before .before .args in
+    let e : clean (a .n) (a .m) (now (a .store)) ≡ true = is-clean (c .before .before) in
+    simp (le-ltb 512 (a .n) (omega arith), le-ltb 256 (a .m) (omega arith), le-ltb (length (now (a .store))) (9 * a .m) (omega arith), e, lt-ltb (a .room) (sizeFor (a .n) (a .m)) (omega (arith, c .before .size-for .ensures .0)))
 
 returns-6 : tie.Need-returns-6
 returns-6 c =
-    let a = c .before .before .before .before .before .before .before .args in
-    let e : clean (a .n) (a .m) (now (a .store)) ≡ true = is-clean (c .before) in
-    simp (le-ltb 512 (a .n) (omega arith), le-ltb 256 (a .m) (omega arith), le-ltb (length (now (a .store))) (9 * a .m) (omega arith), e, le-ltb (a .room) (sizeFor (a .n) (a .m)) (omega arith))
+    let a = c .before .before .before .before .before .before .before .before .args in
+    let e : clean (a .n) (a .m) (now (a .store)) ≡ true = is-clean (c .before .before) in
+    simp (le-ltb 512 (a .n) (omega arith), le-ltb 256 (a .m) (omega arith), le-ltb (length (now (a .store))) (9 * a .m) (omega arith), e, le-ltb (a .room) (sizeFor (a .n) (a .m)) (omega (arith, c .before .size-for .ensures .0)), c .before .size-for .ensures .0)
 
 pub judge-write-spec : {M : Type 1} → statement M
 judge-write-spec =
@@ -78,9 +68,6 @@ judge-write-spec =
     returns-3
     clean-rows-requires
     returns-4
-    add-size
-    mul-size
-    add-size-2
-    add-size-3
+    size-for-requires
     returns-5
     returns-6)
