@@ -111,12 +111,13 @@ fn put_word(s: &mut [u8], q: usize, v: u64)
     }
 }
 
-// The first off bits of y, and v behind them. (Without any, a shift by 64 would be one of 0.)
+// The first off bits of y, and v behind them.
 fn headed(y: u8, off: usize, v: u64) -> u64
     requires { ⌜ off < 8 ⌝ }
     ensures { λ r. ⌜ r ≡ y / 2 ^ (8 - off) * 2 ^ (64 - off) + v / 2 ^ off ⌝ }
 {
     let first = wide(y) >> (8 - off);
+    // With off = 0 the shift would be by 64, which a machine does not do. It is by 64 % 64, which is 0, and first is 0 then.
     (first << ((64 - off) % 64)) | (v >> off)
 }
 

@@ -87,6 +87,7 @@ fn row_at(at: Cursor, s: &[u8], n: usize) -> Row
         w += 1;
     }
     let last = c.field(s, left + 1);
+    // n = 512 has no begun word: its eight are full.
     if k < 8 {
         words[k] = bits::raised(last.value / 2, 64 - left);
     }
@@ -195,6 +196,7 @@ fn put_row(at: Cursor, out: &mut [u8], store: &[u64], base: usize, n: usize) -> 
         c = c.put_64(out, store[base + w]);
         w += 1;
     }
+    // With n = 512 the word at k = 8 is the parity word: left is 0 then, and no bit of it is taken as a coefficient.
     let v = bits::last_bits(store[base + k], left, store[base + 8]);
     c.put(out, v, left + 1)
 }
