@@ -1,8 +1,9 @@
-// A cursor over the bits of a sheet. Each read gives it back moved on; so does each write.
+// A cursor over the bits of a sheet: each read gives it back moved on, and so does each write. And the head of a sheet, which says its size.
 ghost use mathlib.Core.Path.{_≡_};
 ghost use Prim.Native.Nat.{_+_, _*_, _^_, _≤_, _<_};
 ghost use lib.ListN.{length, take, drop};
 ghost use Rattle.format.specs.Bits.{bitsOf, bitsN, valueOf, putAt};
+ghost use Rattle.format.specs.Sheet.{nOf, mOf, bitsFor, sizeFor};
 
 // How many bits stand before it.
 pub struct Cursor {
@@ -13,6 +14,12 @@ pub struct Cursor {
 pub struct Field {
     pub value: u64,
     pub next: Cursor,
+}
+
+// The two numbers at the head of a sheet.
+pub struct Head {
+    pub n: usize,
+    pub m: usize,
 }
 
 impl Cursor {
@@ -110,4 +117,37 @@ impl Cursor {
             self.put(s, value, 64)
         }
     }
+}
+
+// ---- the head, and the size that it says
+
+// n and m, as the first 19 bits say them.
+pub fn head_of(s: &[u8]) -> Head
+    requires { ⌜ 3 ≤ length (now s) ⌝ }
+    ensures { λ r. ⌜ (r .n ≡ nOf (now (s .entry))) × (r .m ≡ mOf (now (s .entry))) × (r .n < 1024) × (r .m < 512) ⌝ }
+{
+    let start = Cursor { at: 0 };
+    let f = start.field(s, 10);
+    let c = f.next;
+    let g = c.field(s, 9);
+    Head {
+        n: f.value as usize,
+        m: g.value as usize,
+    }
+}
+
+// How many bits a sheet of n variables and m rows means: of all that a head can say, also of what is refused.
+pub fn bits_for(n: usize, m: usize) -> usize
+    requires { ⌜ (n < 1024) × (m < 512) ⌝ }
+    ensures { λ r. ⌜ (r ≡ bitsFor n m) × (r < 2 ^ 19) ⌝ }
+{
+    19 + m * (n + 1)
+}
+
+// How many bytes hold them.
+pub fn size_for(n: usize, m: usize) -> usize
+    requires { ⌜ (n < 1024) × (m < 512) ⌝ }
+    ensures { λ r. ⌜ (r ≡ sizeFor n m) × (r ≤ 2 ^ 16) ⌝ }
+{
+    (bits_for(n, m) + 7) / 8
 }

@@ -27,8 +27,8 @@ pub fn sheet_end(s: &[u8]) -> usize
     if s.len() < 3 {
         return s.len();
     }
-    let h = sheet::head_of(s);
-    let size = sheet::size_for(h.n, h.m);
+    let h = cursor::head_of(s);
+    let size = cursor::size_for(h.n, h.m);
     bits::shorter(size, s.len())
 }
 

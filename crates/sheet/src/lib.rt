@@ -17,12 +17,6 @@ pub struct Row {
     pub next: Cursor,
 }
 
-// The two numbers at the head of a sheet.
-pub struct Head {
-    pub n: usize,
-    pub m: usize,
-}
-
 // What the reader says: a refusal number of document 01, or that a sheet of n variables and m rows was read.
 pub enum Reading {
     Refused(u8),
@@ -33,39 +27,6 @@ pub enum Reading {
 pub enum Writing {
     Refused(u8),
     Written { size: usize },
-}
-
-// ---- the head, and the size that it says
-
-// n and m, as the first 19 bits say them.
-pub fn head_of(s: &[u8]) -> Head
-    requires { ⌜ 3 ≤ length (now s) ⌝ }
-    ensures { λ r. ⌜ (r .n ≡ nOf (now (s .entry))) × (r .m ≡ mOf (now (s .entry))) × (r .n < 1024) × (r .m < 512) ⌝ }
-{
-    let start = Cursor { at: 0 };
-    let f = start.field(s, 10);
-    let c = f.next;
-    let g = c.field(s, 9);
-    Head {
-        n: f.value as usize,
-        m: g.value as usize,
-    }
-}
-
-// How many bits a sheet of n variables and m rows means: of all that a head can say, also of what is refused.
-fn bits_for(n: usize, m: usize) -> usize
-    requires { ⌜ (n < 1024) × (m < 512) ⌝ }
-    ensures { λ r. ⌜ (r ≡ bitsFor n m) × (r < 2 ^ 19) ⌝ }
-{
-    19 + m * (n + 1)
-}
-
-// How many bytes hold them.
-pub fn size_for(n: usize, m: usize) -> usize
-    requires { ⌜ (n < 1024) × (m < 512) ⌝ }
-    ensures { λ r. ⌜ (r ≡ sizeFor n m) × (r ≤ 2 ^ 16) ⌝ }
-{
-    (bits_for(n, m) + 7) / 8
 }
 
 // ---- reading
@@ -121,7 +82,7 @@ pub fn judge(s: &[u8], room: usize) -> Reading
     if s.len() < 3 {
         return Reading::Refused(1);
     }
-    let h = head_of(s);
+    let h = cursor::head_of(s);
     let n = h.n;
     let m = h.m;
     if 512 < n {
@@ -130,8 +91,8 @@ pub fn judge(s: &[u8], room: usize) -> Reading
     if 256 < m {
         return Reading::Refused(3);
     }
-    let bits = bits_for(n, m);
-    let size = size_for(n, m);
+    let bits = cursor::bits_for(n, m);
+    let size = cursor::size_for(n, m);
     let words = 9 * m;
     if s.len() < size {
         return Reading::Refused(1);
@@ -224,7 +185,7 @@ fn emit(n: usize, m: usize, store: &[u64], out: &mut [u8])
     let head = start.put(out, n as u64, 10);
     let body = head.put(out, m as u64, 9);
     let end = put_rows(body, out, store, n, m);
-    let size = size_for(n, m);
+    let size = cursor::size_for(n, m);
     end.put(out, 0, size * 8 - end.at);
 }
 
@@ -279,7 +240,7 @@ fn judge_write(n: usize, m: usize, store: &[u64], room: usize) -> Writing
     if !good {
         return Writing::Refused(5);
     }
-    let size = size_for(n, m);
+    let size = cursor::size_for(n, m);
     if room < size {
         return Writing::Refused(7);
     }

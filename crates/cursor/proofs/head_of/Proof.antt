@@ -1,4 +1,4 @@
--- `sheet::head_of` meets its contract.
+-- `cursor::head_of` meets its contract.
 -- Assumes nothing.
 use mathlib.Core.Path.{_≡_, ap, _∙_}
 use Prim.Native.Nat.{ℕ, _<_}
@@ -10,8 +10,8 @@ use Rattle.format.proofs.Bytes.{length-bitsOf}
 use Rattle.format.proofs.Values.{field-lt}
 use Rattle.format.specs.Bits.{bitsOf, valueOf}
 use Rattle.format.specs.Sheet.{nOf, mOf}
-use Rattle.sheet.proofs.head_of.Statement.{statement}
-use Rattle.sheet.proofs.head_of.Tie as tie
+use Rattle.cursor.proofs.head_of.Statement.{statement}
+use Rattle.cursor.proofs.head_of.Tie as tie
 
 field-requires : tie.Need-field-requires
 field-requires c κs = search needs

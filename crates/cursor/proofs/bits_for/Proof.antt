@@ -1,11 +1,11 @@
--- `sheet::bits_for` meets its contract.
+-- `cursor::bits_for` meets its contract.
 -- Assumes nothing.
 use Prim.Native.Nat.{ℕ, _+_, _*_, _≤_, _<_}
 use native.Mathlib.Nat.{mul-le-mul}
 use native.Mathlib.Omega.{arith}
 use borrow.Author.Needs.{needs}
-use Rattle.sheet.proofs.bits_for.Statement.{statement}
-use Rattle.sheet.proofs.bits_for.Tie as tie
+use Rattle.cursor.proofs.bits_for.Statement.{statement}
+use Rattle.cursor.proofs.bits_for.Tie as tie
 
 small : (n m : ℕ) → n < 1024 → m < 512 → m * (n + 1) ≤ 511 * 1024
 small n m hn hm = mul-le-mul {n₂ = 511} {m₂ = 1024} (omega arith) (omega arith)
