@@ -1,10 +1,10 @@
 -- A SCAN WORD BY WORD: the list of what was picked below base, and then the list of the ones of a word.
---   news, others, rows           the lists that answer, by how far the scan has gone: what is new, the other variables of a row, the rows that a row is the sum of
+--   news, knowns, others, rows   the lists that answer, by how far the scan has gone: what is new, what has a value, the other variables of a row, the rows that a row is the sum of
 --   Scanned l n at w out o c     the loop over words: those below w are listed, as far as the n places of the scan
 --   Step l n at w out o c m      the list m of word w has room in the buffer; when it stands there, the words up to w are listed
 --   scan-start, scan-end         before the loop, and after it
---   new-step, other-step         the turn of the loop, for what is new and for the other variables of a row
---   row-step                     for the rows that a row is the sum of
+--   new-step, known-step         the turn of the loop, for what is new and for what has a value
+--   other-step, row-step         for the other variables of a row, and for the rows that a row is the sum of
 -- Assumes nothing.
 use mathlib.Core.Path.{_≡_, refl, sym, ap, ap₂, _∙_}
 use mathlib.Core.List.{List, _++_}
@@ -13,22 +13,25 @@ use Prim.Native.Nat.{ℕ, zero, suc, _+_, _*_, _-_, _/_, _%_, _^_, _<_, _≤_, m
 use native.Mathlib.Nat.{mod-lt, zero-lt-suc, zero-div}
 use native.Mathlib.Numerals.{add-one}
 use native.Mathlib.Omega.{arith}
-use lib.Bits.{bitAnd, bitXor}
+use lib.Bits.{bitAnd, bitOr, bitXor}
 use lib.ListN.{length, getD, length-append}
 use Rattle.gf2.specs.Field.{_⊕_, same}
 use Rattle.gf2.specs.Answers.{code}
 use Rattle.gf2.specs.Places.{scanned}
-use Rattle.gf2.proofs.Sums.{same-refl}
-use Rattle.words.specs.Words.{digit, bitOf, bitAt}
-use Rattle.words.proofs.Bits.{bit-xor, bit-without, bit-in, bit-front}
+use Rattle.gf2.proofs.Sums.{same-refl, same-comm}
+use Rattle.words.specs.Words.{digit, bitOf, bitAt, ownWord}
+use Rattle.words.proofs.Bits.{bit-xor, bit-without, bit-without-or, own-bit, bit-in, bit-front}
 use Rattle.tableau.specs.Layout.{rowAt, fromAt, knownAt, truthAt}
 use Rattle.tableau.specs.View.{vals}
-use Rattle.lists.specs.Listing.{numbers, isNew, isOther, FirstOnes, But, items, ListPut}
+use Rattle.lists.specs.Listing.{numbers, isNew, isOther, FirstOnes, items, ListPut}
 use Rattle.lists.proofs.Picking.{Grows, scanned-grows, numbers-grows, passed, grown, few, gap, joined, listed-none, listed-join}
 use Rattle.lists.proofs.Digits.{items-grows}
 
 abbrev pub news : List ℕ → List ℕ → ℕ → ℕ → List ℕ
 news work old v k = scanned k (isNew work old v) (vals work truthAt)
+
+abbrev pub knowns : List ℕ → ℕ → List ℕ
+knowns work k = scanned k (vals work knownAt) (vals work truthAt)
 
 abbrev pub others : List ℕ → ℕ → ℕ → ℕ → List ℕ
 others work r v k = scanned k (isOther work r v) (λ u. not (vals work truthAt u))
@@ -95,38 +98,62 @@ code-item : (u y j : ℕ) (b : Bool) → b ≡ not (bitOf y j) → code (suc u) 
 code-item u y j b e =
     ap (code (suc u)) e ∙ code-digit (suc u) (y / 2 ^ j % 2) (mod-lt (y / 2 ^ j) (zero-lt-suc 1)) ∙ ap (λ (v : ℕ). 2 * v + y / 2 ^ j % 2) (sym (add-one u))
 
+-- the digit of v, in word w of the row that has v alone
+own-digit : (v w i : ℕ) → 0 < v → i < 64 → bitOf (ownWord (v - 1) w) (63 - i) ≡ same (suc (w * 64 + i)) v
+own-digit v w i pos l =
+    let q : (w * 64 + i) / 64 ≡ w = omega arith in
+    let r : (w * 64 + i) % 64 ≡ i = omega arith in
+    let s : suc (v - 1) ≡ v = omega arith in
+    sym (ap₂ (λ (x y : ℕ). bitOf (ownWord (v - 1) x) (63 - y)) q r) ∙ own-bit (v - 1) (w * 64 + i) ∙ same-comm (v - 1) (w * 64 + i) ∙ ap (same (suc (w * 64 + i))) s
+
 -- the turn of each loop: what the code reads, and of which variable it takes the digit away, are equations
 module _ (n w z x : ℕ) (live : w * 64 < n) (first : FirstOnes z (n - w * 64) x) (work out o : List ℕ) (c : ℕ) (big : n ≤ length out) where
-  pub new-step : (old : List ℕ) (u v : ℕ) → Scanned (news work old v) n 0 w out o c
-      → But (bitXor (getD work (knownAt + w) 0) (bitAnd (getD work (knownAt + w) 0) (getD old w 0))) (w * 64) u z → u ≡ v
-      → Step (news work old v) n 0 w out o c (items 64 x (bitXor x (getD work (truthAt + w) 0)) 2 (w * 64))
-  new-step old u v k but e =
-      step grows n 0 w out o c _ (omega (arith, few grows n)) big k live
-      (word grows n (w * 64) z x (bitXor x truth) 2 live first
-      (λ i m. ap₂ (λ (a b : Bool). a && not b)
-      (ap₂ (λ (a b : Bool). a && not b) (bit-in work knownAt w i m) (bit-front old w i m) ∙ sym (bit-without (getD work (knownAt + w) 0) (getD old w 0) (63 - i)))
-      (ap (same (suc (w * 64 + i))) (sym e))
-      ∙ sym (but .ones i m))
-      (λ i m q. code-item (w * 64 + i) (bitXor x truth) (63 - i) _
-      (bit-in work truthAt w i m ∙ turned (bitOf truth (63 - i)) ∙ sym (ap not (bit-xor x truth (63 - i) ∙ ap (λ (b : Bool). b ⊕ bitOf truth (63 - i)) q)))))
+  -- among the ones of x, x ^ truth has those of the variables that are false
+  value-item : (i : ℕ) → i < 64 → bitOf x (63 - i) ≡ true → code (suc (w * 64 + i)) (bitAt work truthAt (w * 64 + i)) ≡ 2 * (w * 64 + i + 1) + bitXor x (getD work (truthAt + w) 0) / 2 ^ (63 - i) % 2
+  value-item i m q =
+      code-item (w * 64 + i) (bitXor x truth) (63 - i) _
+      (bit-in work truthAt w i m ∙ turned (bitOf truth (63 - i)) ∙ sym (ap not (bit-xor x truth (63 - i) ∙ ap (λ (b : Bool). b ⊕ bitOf truth (63 - i)) q)))
     where
       truth : ℕ
       truth = getD work (truthAt + w) 0
-
-      grows : Grows (news work old v) (λ i. isNew work old v (suc i)) (λ i. code (suc i) (vals work truthAt (suc i)))
-      grows = scanned-grows (isNew work old v) (vals work truthAt)
 
       turned : (b : Bool) → b ≡ not (true ⊕ b)
       turned true = refl
       turned false = refl
 
+  pub new-step : (old : List ℕ) (u v : ℕ) → 0 < v → Scanned (news work old v) n 0 w out o c
+      → z ≡ bitXor (getD work (knownAt + w) 0) (bitAnd (getD work (knownAt + w) 0) (bitOr (getD old w 0) (ownWord (u - 1) w))) → u ≡ v
+      → Step (news work old v) n 0 w out o c (items 64 x (bitXor x (getD work (truthAt + w) 0)) 2 (w * 64))
+  new-step old u v pos k e h =
+      step grows n 0 w out o c _ (omega (arith, few grows n)) big k live
+      (word grows n (w * 64) z x (bitXor x (getD work (truthAt + w) 0)) 2 live first
+      (λ i m. ap₂ (λ (a b : Bool). a && not b) (ap₂ (λ (a b : Bool). a && not b) (bit-in work knownAt w i m) (bit-front old w i m)) (sym (own-digit v w i pos m))
+      ∙ sym (bit-without-or (getD work (knownAt + w) 0) (getD old w 0) (ownWord (v - 1) w) (63 - i))
+      ∙ ap (λ (y : ℕ). bitOf y (63 - i)) (sym whole)) value-item)
+    where
+      grows : Grows (news work old v) (λ i. isNew work old v (suc i)) (λ i. code (suc i) (vals work truthAt (suc i)))
+      grows = scanned-grows (isNew work old v) (vals work truthAt)
+
+      whole : z ≡ bitXor (getD work (knownAt + w) 0) (bitAnd (getD work (knownAt + w) 0) (bitOr (getD old w 0) (ownWord (v - 1) w)))
+      whole = e ∙ ap (λ (y : ℕ). bitXor (getD work (knownAt + w) 0) (bitAnd (getD work (knownAt + w) 0) (bitOr (getD old w 0) (ownWord (y - 1) w)))) h
+
+  pub known-step : Scanned (knowns work) n 0 w out o c → z ≡ getD work (knownAt + w) 0 → Step (knowns work) n 0 w out o c (items 64 x (bitXor x (getD work (truthAt + w) 0)) 2 (w * 64))
+  known-step k e =
+      step grows n 0 w out o c _ (omega (arith, few grows n)) big k live
+      (word grows n (w * 64) z x (bitXor x (getD work (truthAt + w) 0)) 2 live first (λ i m. bit-in work knownAt w i m ∙ ap (λ (y : ℕ). bitOf y (63 - i)) (sym e)) value-item)
+    where
+      grows : Grows (knowns work) (λ i. vals work knownAt (suc i)) (λ i. code (suc i) (vals work truthAt (suc i)))
+      grows = scanned-grows (vals work knownAt) (vals work truthAt)
+
   -- v's literal has the place that v leaves
-  pub other-step : (r v i : ℕ) → 0 < v → v ≤ n → Scanned (others work r v) n 1 w out o c → But (getD work i 0) (w * 64) v z → i ≡ rowAt r + w
+  pub other-step : (r v i : ℕ) → 0 < v → v ≤ n → Scanned (others work r v) n 1 w out o c → z ≡ bitXor (getD work i 0) (bitAnd (getD work i 0) (ownWord (v - 1) w)) → i ≡ rowAt r + w
       → Step (others work r v) n 1 w out o c (items 64 x (getD work (truthAt + w) 0) 2 (w * 64))
-  other-step r v i pos le k but e =
+  other-step r v i pos le k e h =
       step grows n 1 w out o c _ fits big k live
       (word grows n (w * 64) z x (getD work (truthAt + w) 0) 2 live first
-      (λ j m. ap (λ (b : Bool). b && not (same (suc (w * 64 + j)) v)) (bit-in work (rowAt r) w j m ∙ ap (λ (a : ℕ). bitOf (getD work a 0) (63 - j)) (sym e)) ∙ sym (but .ones j m))
+      (λ j m. ap₂ (λ (a b : Bool). a && not b) (bit-in work (rowAt r) w j m ∙ ap (λ (a : ℕ). bitOf (getD work a 0) (63 - j)) (sym h)) (sym (own-digit v w j pos m))
+      ∙ sym (bit-without (getD work i 0) (ownWord (v - 1) w) (63 - j))
+      ∙ ap (λ (y : ℕ). bitOf y (63 - j)) (sym e))
       (λ j m q. code-item (w * 64 + j) (getD work (truthAt + w) 0) (63 - j) _ (ap not (bit-in work truthAt w j m))))
     where
       grows : Grows (others work r v) (λ j. isOther work r v (suc j)) (λ j. code (suc j) (not (vals work truthAt (suc j))))

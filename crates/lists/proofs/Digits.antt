@@ -1,30 +1,25 @@
 -- THE DIGITS OF ONE WORD, the top one first: which of them are kept, and how they are listed.
 --   first-shifted, first-all          the ones among the first digits, as two shifts leave them; all of them
---   but-below, but-above, but-one     the ones but that of a variable: it is none of the word's, or its digit is taken away
 --   items-grows, item-le              the list of the ones, as a scan makes it; an item is small
 --   Rest                              the loop that lists a word: the digits before `seen` are listed, and the others are left
 --   rest-start, rest-room, rest-next  before the loop; there is room for the top one, which is listed and taken away
 --   rest-end                          the list when nothing is left
 -- Assumes nothing.
 use mathlib.Core.Path.{_≡_, refl, sym, ap, ap₂, _∙_}
-use mathlib.Core.Bool.{Bool, _&&_, not, and-true}
+use mathlib.Core.Bool.{Bool}
 use mathlib.Core.List.{List, [], _∷_, _++_}
-use mathlib.Core.Logic.{_⊎_, inl, inr, _≢_}
 use Prim.Native.Nat.{ℕ, suc, _+_, _*_, _-_, _/_, _%_, _^_, _<_, _≤_}
 use native.Mathlib.Nat.{mod-eq-of-lt, mul-le-mul, lt-of-le-of-lt}
 use native.Mathlib.Omega.{arith}
-use lib.Bits.{bitAnd, bitXor}
+use lib.Bits.{bitXor}
 use lib.Count.{leadingZeros}
 use lib.ListN.{length, set, length-append}
 use lib.Pow.{shr-shr, split}
-use Rattle.gf2.specs.Field.{same}
 use Rattle.gf2.specs.Places.{listed-if}
-use Rattle.gf2.proofs.Sums.{same-dec, same-refl, same-ne}
 use Rattle.words.specs.Words.{digit, bitOf}
-use Rattle.words.proofs.Bits.{bit-without, pow-bit}
-use Rattle.words.proofs.Ones.{high-digit, low-digit, one-digit, zeros-lt, Left, left-start, left-end, left-seen, left-top, left-skip, left-next}
+use Rattle.words.proofs.Ones.{high-digit, low-digit, zeros-lt, Left, left-start, left-end, left-seen, left-top, left-skip, left-next}
 use Rattle.tableau.specs.Layout.{maxVars}
-use Rattle.lists.specs.Listing.{FirstOnes, But, items, ListPut}
+use Rattle.lists.specs.Listing.{FirstOnes, items, ListPut}
 use Rattle.lists.proofs.Picking.{Grows, passed, grown, listed-none, listed-one, listed-join}
 
 -- ---- the first digits
@@ -46,30 +41,6 @@ first-shifted x k f pos l =
 
 pub first-all : (x k : ℕ) → 64 ≤ k → FirstOnes x k x
 first-all x k l = record { kept = λ i a b. refl; none = λ i a b. absurd (omega arith) }
-
--- ---- the digits but that of a variable
-but-none : (x base v : ℕ) → ((i : ℕ) → i < 64 → suc (base + i) ≢ v) → But x base v x
-but-none x base v d = record { ones = λ i l. sym (ap (λ (b : Bool). bitOf x (63 - i) && not b) (same-ne (suc (base + i)) v (d i l)) ∙ and-true (bitOf x (63 - i))) }
-
-pub but-below : (x base v : ℕ) → v ≤ base → But x base v x
-but-below x base v h = but-none x base v (λ i l e. absurd (omega arith))
-
-pub but-above : (x base v : ℕ) → base + 64 < v → But x base v x
-but-above x base v h = but-none x base v (λ i l e. absurd (omega arith))
-
-pub but-one : (x base v : ℕ) → base < v → v ≤ base + 64 → But x base v (bitXor x (bitAnd x (1 * 2 ^ (base + 64 - v) % 2 ^ 64)))
-but-one x base v lo hi = record { ones = ones }
-  where
-    here : (i : ℕ) → i < 64 → (suc (base + i) ≡ v) ⊎ (suc (base + i) ≢ v) → same (base + 64 - v) (63 - i) ≡ same (suc (base + i)) v
-    here i l (inl e) = let q : base + 64 - v ≡ 63 - i = omega arith in rw (q, e) (same-refl (63 - i) ∙ sym (same-refl v))
-    here i l (inr d) = same-ne (base + 64 - v) (63 - i) (λ e. d (omega arith)) ∙ sym (same-ne (suc (base + i)) v d)
-
-    ones : (i : ℕ) → i < 64 → bitOf (bitXor x (bitAnd x (1 * 2 ^ (base + 64 - v) % 2 ^ 64))) (63 - i) ≡ bitOf x (63 - i) && not (same (suc (base + i)) v)
-    ones i l =
-        let s : base + 64 - v < 64 = omega arith in
-        ap (λ (y : ℕ). bitOf (bitXor x (bitAnd x y)) (63 - i)) (one-digit (base + 64 - v) s)
-        ∙ bit-without x (2 ^ (base + 64 - v)) (63 - i)
-        ∙ ap (λ (b : Bool). bitOf x (63 - i) && not b) (pow-bit (base + 64 - v) (63 - i) ∙ here i l (same-dec (suc (base + i)) v))
 
 -- ---- the list of the ones
 pub items-grows : (x t s base : ℕ) → Grows (λ k. items k x t s base) (λ i. bitOf x (63 - i)) (λ i. s * (base + i + 1) + t / 2 ^ (63 - i) % 2)

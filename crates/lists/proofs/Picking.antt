@@ -8,26 +8,20 @@
 --   listed-join                   a list after a list
 --   listed-cons                   an item before a list that starts at place 1
 --   listed-take                   the used part of the buffer is the list
---   known-listed                  what is new where nothing was known before
 -- Assumes nothing.
 use mathlib.Core.Path.{_≡_, refl, sym, ap, ap₂, _∙_}
 use mathlib.Core.List.{List, [], _∷_, _++_, append-nil, append-assoc}
-use mathlib.Core.Bool.{Bool, true, false, _&&_, and-true}
+use mathlib.Core.Bool.{Bool, true, false}
 use mathlib.Core.Logic.{_⊎_, inl, inr}
-use Prim.Native.Nat.{ℕ, zero, suc, _+_, _-_, _/_, _%_, _<_, _≤_}
+use Prim.Native.Nat.{ℕ, zero, suc, _+_, _-_, _<_, _≤_}
 use native.Mathlib.Nat.{not-suc-le-zero, add-zero, zero-add}
 use native.Mathlib.Decide.{decLt}
 use native.Mathlib.Omega.{arith}
-use lib.ListN.{length, getD, set, take, replicate, length-set, length-append, length-take, List·getD-append}
+use lib.ListN.{length, getD, set, take, length-set, length-append, length-take, List·getD-append}
 use lib.Seq.{getD-set-same, getD-set-other, getD-append-add, getD-take, ext-getD}
 use Rattle.gf2.specs.Answers.{code}
 use Rattle.gf2.specs.Places.{listed-if, scanned}
-use Rattle.gf2.proofs.Scans.{scanned-same}
-use Rattle.words.specs.Words.{bitOf, bitAt}
-use Rattle.words.proofs.Bits.{zero-bits}
-use Rattle.tableau.specs.Layout.{knownAt}
-use Rattle.tableau.specs.View.{vals}
-use Rattle.lists.specs.Listing.{numbers, isNew, ListPut}
+use Rattle.lists.specs.Listing.{numbers, ListPut}
 
 -- ---- the list of a scan
 pub record Grows (l : ℕ → List ℕ) (p : ℕ → Bool) (g : ℕ → ℕ) : Type 0 where
@@ -165,18 +159,3 @@ listed-take most l out o x h big =
     (λ i li. let z : i < length l = omega arith in
     let q : i < x = omega arith in
     getD-take x o i 0 q ∙ ap (λ (k : ℕ). getD o k 0) (sym (zero-add i)) ∙ h .used i z)
-
--- ---- where nothing was known before
-zeros : (n j : ℕ) → _≡_ {A = ℕ} (getD (replicate n 0) j 0) 0
-zeros zero j = refl
-zeros (suc n) zero = refl
-zeros (suc n) (suc j) = zeros n j
-
--- with no values before, and no variable 0, what is new is all that has a value
-new-all : (k : ℕ) (work : List ℕ) (u : ℕ) → 0 < u → isNew work (replicate k 0) 0 u ≡ vals work knownAt u
-unfolding bitAt
-new-all k work zero pos = absurd (not-suc-le-zero pos)
-new-all k work (suc i) pos = rw (ap (λ (x : ℕ). bitOf x (63 - i % 64)) (zeros k (0 + i / 64)) ∙ zero-bits (63 - i % 64)) (and-true (bitAt work knownAt i && true) ∙ and-true (bitAt work knownAt i))
-
-pub known-listed : (n k : ℕ) (work : List ℕ) (f : ℕ → Bool) (out o : List ℕ) (x : ℕ) → ListPut n 0 (scanned n (isNew work (replicate k 0) 0) f) out o x → ListPut n 0 (scanned n (vals work knownAt) f) out o x
-known-listed n k work f out o x h = rw (scanned-same n (isNew work (replicate k 0) 0) (vals work knownAt) f f (λ u m. new-all k work u (m .low)) (λ u m. refl)) at h

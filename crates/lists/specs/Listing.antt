@@ -3,7 +3,6 @@
 --   isNew work old v u           u has a value now, had none in the words old, and is not v
 --   isOther work r v u           row r has u, which is not v
 --   FirstOnes x k r              r has the ones of x among its first k digits, the top one first, and no others
---   But x base v r               r has the ones of x but that of v, where the digits of x are those of base + 1, base + 2, ..
 --   items k x t s base           the ones of x among its first k digits, as a scan lists them: that of digit i as s * (base + i + 1), and 1 more where t has a one too
 --   ListPut most at l out o x    the list l stands in the buffer from place at, which is otherwise as it was; x is the place after it, at most `most`
 -- Assumes nothing.
@@ -32,9 +31,6 @@ isOther work r v u = vals work (rowAt r) u && not (same u v)
 pub record FirstOnes (x k r : ℕ) : Type 0 where
   pub kept : (i : ℕ) → i < 64 → i < k → bitOf r (63 - i) ≡ bitOf x (63 - i)
   pub none : (i : ℕ) → i < 64 → k ≤ i → bitOf r (63 - i) ≡ false
-
-pub record But (x base v r : ℕ) : Type 0 where
-  pub ones : (i : ℕ) → i < 64 → bitOf r (63 - i) ≡ bitOf x (63 - i) && not (same (suc (base + i)) v)
 
 unfoldable pub items : ℕ → ℕ → ℕ → ℕ → ℕ → List ℕ
 items zero x t s base = []

@@ -4,6 +4,7 @@ use tableau::KNOWN;
 use tableau::ROW;
 use tableau::TRUTH;
 use words::bit;
+use words::own;
 use words::without;
 ghost use mathlib.Core.Path.{_≡_};
 ghost use mathlib.Core.Bool.{not};
@@ -15,7 +16,7 @@ ghost use Rattle.gf2.specs.Places.{scanned};
 ghost use Rattle.words.specs.Words.{bitAt};
 ghost use Rattle.tableau.specs.Layout.{maxVars, maxRows, fromAt, knownAt, truthAt, size};
 ghost use Rattle.tableau.specs.View.{vals};
-ghost use Rattle.lists.specs.Listing.{numbers, isNew, isOther, FirstOnes, But, items, ListPut};
+ghost use Rattle.lists.specs.Listing.{numbers, isNew, isOther, FirstOnes, items, ListPut};
 
 // The code of the literal that gives v the value b.
 pub fn literal(v: usize, b: bool) -> u64
@@ -42,21 +43,6 @@ pub fn first_ones(x: u64, k: usize) -> u64
     }
 }
 
-// The ones of x but that of v: its digits are those of base + 1, base + 2, .., the top one first.
-pub fn but(x: u64, base: usize, v: usize) -> u64
-    requires { ⌜ base + 64 ≤ maxVars ⌝ }
-    ensures { λ r. ⌜ But x base v r ⌝ }
-{
-    if v <= base {
-        return x;
-    }
-    if base + 64 < v {
-        return x;
-    }
-    let one = 1 << (base + 64 - v);
-    without(x, one)
-}
-
 // The ones of x are listed from place `at` on: that of digit i, the top one first, as s * (base + i + 1), and 1 more where t has a one too.
 pub fn list_word(x: u64, t: u64, s: u64, base: usize, at: usize, out: &mut [u64]) -> usize
     requires { ⌜ (s ≤ 2) × (base + 64 ≤ maxVars) × (at + length (items 64 x t s base) ≤ length (now out)) ⌝ }
@@ -74,17 +60,16 @@ pub fn list_word(x: u64, t: u64, s: u64, base: usize, at: usize, out: &mut [u64]
     c
 }
 
-// The literals of the variables that are new, given which had a value before.
+// The literals of the variables but v that have a value now and had none in old.
 pub fn list_new(work: &[u64], old: &[u64], v: usize, n: usize, out: &mut [u64]) -> usize
-    requires { ⌜ (size ≤ length (now work)) × (8 ≤ length (now old)) × (n ≤ maxVars) × (n ≤ length (now out)) ⌝ }
+    requires { ⌜ (size ≤ length (now work)) × (8 ≤ length (now old)) × (n ≤ maxVars) × (n ≤ length (now out)) × (0 < v) × (v ≤ maxVars) ⌝ }
     ensures { λ x. ⌜ ListPut n 0 (scanned n (isNew (now (work .entry)) (now (old .entry)) v) (vals (now (work .entry)) truthAt)) (now (out .entry)) (now (out .exit)) x ⌝ }
 {
     let mut c = 0;
     let mut w = 0;
     while w * 64 < n {
         let base = w * 64;
-        let fresh = without(work[KNOWN + w], old[w]);
-        let x = first_ones(but(fresh, base, v), n - base);
+        let x = first_ones(without(work[KNOWN + w], old[w] | own(v, w)), n - base);
         // Among the ones of x, x ^ truth has those of the variables that are false: their codes are odd.
         c = list_word(x, x ^ work[TRUTH + w], 2, base, c, out);
         w += 1;
@@ -97,8 +82,15 @@ pub fn list_known(work: &[u64], n: usize, out: &mut [u64]) -> usize
     requires { ⌜ (size ≤ length (now work)) × (n ≤ maxVars) × (n ≤ length (now out)) ⌝ }
     ensures { λ x. ⌜ ListPut n 0 (scanned n (vals (now (work .entry)) knownAt) (vals (now (work .entry)) truthAt)) (now (out .entry)) (now (out .exit)) x ⌝ }
 {
-    let old = [0u64; 8];
-    list_new(work, &old, 0, n, out)
+    let mut c = 0;
+    let mut w = 0;
+    while w * 64 < n {
+        let base = w * 64;
+        let x = first_ones(work[KNOWN + w], n - base);
+        c = list_word(x, x ^ work[TRUTH + w], 2, base, c, out);
+        w += 1;
+    }
+    c
 }
 
 // From place 1 on, the negations of the values of the variables of row r but v.
@@ -110,8 +102,7 @@ pub fn list_others(work: &[u64], r: usize, v: usize, n: usize, out: &mut [u64]) 
     let mut w = 0;
     while w * 64 < n {
         let base = w * 64;
-        let row = work[ROW * r + w];
-        let x = first_ones(but(row, base, v), n - base);
+        let x = first_ones(without(work[ROW * r + w], own(v, w)), n - base);
         // The code of the negation is odd where the variable is true.
         c = list_word(x, work[TRUTH + w], 2, base, c, out);
         w += 1;

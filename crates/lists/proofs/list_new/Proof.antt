@@ -27,7 +27,7 @@ more : (c : tie.After-list-word-arg Inv-loop μ-loop)
 more c =
     let a = c .before .before .before .before .before .before .before .before .before .before .before .before .args in
     let l = c .before .before .before .before .before .before .before .before .loop in
-    new-step (a .n) (l .w) _ _ (omega arith) (c .before .before .first-ones .ensures) (a .work .now) (a .out .now) (l .out) (l .c) (omega arith) (a .old .now) _ (a .v) (l .inv) (rw (c .before .before .before .before .without .ensures) at (c .before .before .before .but .ensures)) (omega arith)
+    new-step (a .n) (l .w) _ _ (omega arith) (c .before .before .first-ones .ensures) (a .work .now) (a .out .now) (l .out) (l .c) (omega arith) (a .old .now) _ (a .v) (omega arith) (l .inv) (rw (c .before .before .before .before .own .ensures) at (c .before .before .before .without .ensures)) (omega arith)
 
 loop-holds : tie.Need-loop-holds Inv-loop μ-loop
 loop-holds c = scan-start (scanned-grows _ _) _ _ _ (omega arith)
@@ -53,11 +53,11 @@ mul-without-2 c = search needs
 shared-slice-read-without-2 : tie.Need-shared-slice-read-without-2 Inv-loop μ-loop
 shared-slice-read-without-2 c = search needs
 
+own-requires : tie.Need-own-requires Inv-loop μ-loop
+own-requires c κs = search needs
+
 without-requires : tie.Need-without-requires Inv-loop μ-loop
 without-requires c κs = search needs
-
-but-requires : tie.Need-but-requires Inv-loop μ-loop
-but-requires c κs = search needs
 
 sub-first-ones : tie.Need-sub-first-ones Inv-loop μ-loop
 sub-first-ones c = search needs
@@ -106,8 +106,8 @@ list-new-spec =
     shared-slice-read-without
     mul-without-2
     shared-slice-read-without-2
+    own-requires
     without-requires
-    but-requires
     sub-first-ones
     first-ones-requires
     add-list-word

@@ -19,14 +19,14 @@ abbrev μ-loop : tie.MeasureT-loop
 
 -- the turn of the loop
 more : (c : tie.After-list-word-arg Inv-loop μ-loop)
-    → let a = c .before .before .before .before .before .before .before .before .before .args in
-    let l = c .before .before .before .before .before .before .loop in
+    → let a = c .before .before .before .before .before .before .before .before .before .before .args in
+    let l = c .before .before .before .before .before .before .before .loop in
     let x = c .before .before .first-ones .result in
     Step (others (a .work .now) (a .r) (a .v)) (a .n) 1 (l .w) (a .out .now) (l .out) (l .c) (items 64 x (getD (a .work .now) (truthAt + l .w) 0) 2 (l .w * 64))
 more c =
-    let a = c .before .before .before .before .before .before .before .before .before .args in
-    let l = c .before .before .before .before .before .before .loop in
-    other-step (a .n) (l .w) _ _ (omega arith) (c .before .before .first-ones .ensures) (a .work .now) (a .out .now) (l .out) (l .c) (omega arith) (a .r) (a .v) _ (omega arith) (omega arith) (l .inv) (c .before .before .before .but .ensures) (omega arith)
+    let a = c .before .before .before .before .before .before .before .before .before .before .args in
+    let l = c .before .before .before .before .before .before .before .loop in
+    other-step (a .n) (l .w) _ _ (omega arith) (c .before .before .first-ones .ensures) (a .work .now) (a .out .now) (l .out) (l .c) (omega arith) (a .r) (a .v) _ (omega arith) (omega arith) (l .inv) (rw (c .before .before .before .before .own .ensures) at (c .before .before .before .without .ensures)) (omega arith)
 
 loop-holds : tie.Need-loop-holds Inv-loop μ-loop
 loop-holds c = scan-start (scanned-grows _ _) _ _ _ (omega arith)
@@ -37,20 +37,23 @@ mul-loop c = search needs
 mul-base : tie.Need-mul-base Inv-loop μ-loop
 mul-base c = search needs
 
-mul-row : tie.Need-mul-row Inv-loop μ-loop
-mul-row c = search needs
+mul-without : tie.Need-mul-without Inv-loop μ-loop
+mul-without c = search needs
 
-add-row : tie.Need-add-row Inv-loop μ-loop
-add-row c = search needs
+add-without : tie.Need-add-without Inv-loop μ-loop
+add-without c = search needs
 
-mul-row-2 : tie.Need-mul-row-2 Inv-loop μ-loop
-mul-row-2 c = search needs
+mul-without-2 : tie.Need-mul-without-2 Inv-loop μ-loop
+mul-without-2 c = search needs
 
-shared-slice-read-row : tie.Need-shared-slice-read-row Inv-loop μ-loop
-shared-slice-read-row c = search needs
+shared-slice-read-without : tie.Need-shared-slice-read-without Inv-loop μ-loop
+shared-slice-read-without c = search needs
 
-but-requires : tie.Need-but-requires Inv-loop μ-loop
-but-requires c κs = search needs
+own-requires : tie.Need-own-requires Inv-loop μ-loop
+own-requires c κs = search needs
+
+without-requires : tie.Need-without-requires Inv-loop μ-loop
+without-requires c κs = search needs
 
 sub-first-ones : tie.Need-sub-first-ones Inv-loop μ-loop
 sub-first-ones c = search needs
@@ -94,11 +97,12 @@ list-others-spec =
     loop-holds
     mul-loop
     mul-base
-    mul-row
-    add-row
-    mul-row-2
-    shared-slice-read-row
-    but-requires
+    mul-without
+    add-without
+    mul-without-2
+    shared-slice-read-without
+    own-requires
+    without-requires
     sub-first-ones
     first-ones-requires
     add-list-word

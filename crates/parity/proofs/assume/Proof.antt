@@ -62,7 +62,10 @@ list-new-requires c κs = let o = c .before .before .before .before .before .bef
     let j = judged e in
     let r = replaced-worked (a .work .now) (o .step .last .0) (j .1) (o .step .kept .0) .long in
     let l = j .1 in
-    (omega (arith, r, l), search needs, j .0 .vars, j .2)
+    let low = j .3 in
+    let high = j .4 in
+    let n = j .0 .vars in
+    (omega (arith, r, l), search needs, n, j .2, omega arith, omega arith)
 
 add-at-depth : tie.Need-add-at-depth
 add-at-depth c = let t = c .before .before .before .before .before .before .before in
