@@ -1,5 +1,6 @@
 -- THE SEARCH FOR A PARTNER, word by word and bit by bit.
 --   other-word ws r p w               word w of the variables of row r that have no value and are not p + 1, as the code makes it
+--   other-made                        what the code makes is that word, if it reads the known variables at their place
 --   other-yes, other-no               its bits, as the code reads them
 --   other-none                        a word of 0 has none
 -- Assumes nothing.
@@ -24,6 +25,9 @@ use Rattle.settle.specs.Values.{lacks}
 module _ (ws : List ℕ) (r p : ℕ) where
   abbrev pub other-word : ℕ → ℕ
   other-word w = bitXor (getD ws (rowAt r + w) 0) (bitAnd (getD ws (rowAt r + w) 0) (bitOr (getD ws (knownAt + w) 0) (ownWord p w)))
+
+  pub other-made : (w i y : ℕ) → y ≡ bitXor (getD ws (rowAt r + w) 0) (bitAnd (getD ws (rowAt r + w) 0) (bitOr (getD ws i 0) (ownWord p w))) → i ≡ knownAt + w → y ≡ other-word w
+  other-made w i y e h = e ∙ ap (λ (k : ℕ). bitXor (getD ws (rowAt r + w) 0) (bitAnd (getD ws (rowAt r + w) 0) (bitOr (getD ws k 0) (ownWord p w)))) h
 
   other-bit : (i : ℕ) → bitOf (other-word (i / 64)) (63 - i % 64) ≡ lacks ws r i && not (same p i)
   unfolding lacks bitAt

@@ -9,7 +9,7 @@ use borrow.Author.Count.{below-more}
 use borrow.Author.Needs.{needs}
 use denote.Ref.{now}
 use Rattle.settle.specs.Values.{lacks}
-use Rattle.exchange.proofs.Partners.{other-yes, other-no, other-none}
+use Rattle.exchange.proofs.Partners.{other-word, other-made, other-yes, other-no, other-none}
 use Rattle.exchange.proofs.partner.Statement.{statement}
 use Rattle.exchange.proofs.partner.Tie as tie
 
@@ -24,6 +24,14 @@ Inv-scan work r v a found₀ w₀ found w = (w ≤ 8) × (found ≡ 0) × ((i : 
 
 abbrev μ-scan : tie.MeasureT-scan
 μ-scan work r v a found₀ w₀ found w = 8 - w
+
+-- the word that the code makes
+made : (c : tie.After-without Inv-loop μ-loop Inv-scan μ-scan)
+    → let a = c .before .before .before .before .before .before .before .args in
+    c .without .result ≡ other-word (now (a .work)) (a .r) (a .v - 1) (c .before .before .before .before .before .scan .w)
+made c =
+    let a = c .before .before .before .before .before .before .before .args in
+    other-made (now (a .work)) (a .r) (a .v - 1) (c .before .before .before .before .before .scan .w) _ _ (rw (c .before .own .ensures) at (c .without .ensures)) (omega arith)
 
 mul-a : tie.Need-mul-a Inv-loop μ-loop Inv-scan μ-scan
 mul-a c = search needs
@@ -87,7 +95,7 @@ loop-again c = let l = c .before .before .loop in
       omega arith,
       l .inv .1,
       λ i h. below-more (λ j. j ≢ a .v - 1 → lacks (now (a .work)) (a .r) j ≡ false) (s .w * 64 + l .b) (l .inv .2)
-          (other-no (now (a .work)) (a .r) (a .v - 1) (s .w) (l .b) (omega arith) (rw (← c .before .before .before .before .before .own .ensures, ← c .before .before .before .before .without .ensures) (λ h. omega (arith, h, c .if2 .left)))) i (omega arith),
+          (other-no (now (a .work)) (a .r) (a .v - 1) (s .w) (l .b) (omega arith) (rw (← made (c .before .before .before .before)) (λ h. omega (arith, h, c .if2 .left)))) i (omega arith),
     )
 
 add-w : tie.Need-add-w Inv-loop μ-loop Inv-scan μ-scan
@@ -100,7 +108,7 @@ scan-again : tie.Need-scan-again Inv-loop μ-loop Inv-scan μ-scan
 scan-again c = let s = c .before .before .before .before .before .before .scan in
     let a = c .before .before .before .before .before .before .before .before .args in
     ⊎-elim (λ z. (omega arith, z .3 ∙ z .1 .inv .1, λ i h. z .1 .inv .2 i (omega (arith, z .1 .inv .0, z .2 .left))))
-    (λ z. (omega arith, z .1 ∙ s .inv .1, other-none (now (a .work)) (a .r) (a .v - 1) (s .w) (rw (← c .before .before .own .ensures, ← c .before .without .ensures) (z .0 .left)) (s .inv .2))) (c .if1 .came)
+    (λ z. (omega arith, z .1 ∙ s .inv .1, other-none (now (a .work)) (a .r) (a .v - 1) (s .w) (rw (← made (c .before)) (z .0 .left)) (s .inv .2))) (c .if1 .came)
 
 returns : tie.Need-returns Inv-loop μ-loop Inv-scan μ-scan
 returns c = let s = c .before .scan in
@@ -110,7 +118,7 @@ returns-2 : tie.Need-returns-2 Inv-loop μ-loop Inv-scan μ-scan
 returns-2 c = let l = c .before .before .loop in
     let s = c .before .before .before .before .before .before .before .before .before .scan in
     let a = c .before .before .before .before .before .before .before .before .before .before .before .args in
-    let y = other-yes (now (a .work)) (a .r) (a .v - 1) (s .w) (l .b) (omega arith) (rw (← c .before .before .before .before .before .own .ensures, ← c .before .before .before .before .without .ensures) (omega (arith, c .if2 .taken))) in
+    let y = other-yes (now (a .work)) (a .r) (a .v - 1) (s .w) (l .b) (omega arith) (rw (← made (c .before .before .before .before)) (omega (arith, c .if2 .taken))) in
     record {
       none = λ e. absurd (omega arith);
       some = λ i e. let q : i ≡ s .w * 64 + l .b = omega arith in rw q (omega arith, y .0, y .1);
