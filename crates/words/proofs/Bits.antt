@@ -2,7 +2,7 @@
 --   bit-xor, bit-and, bit-or        a bit of a word made by an operator
 --   bit-without, bit-without-or     a bit of the ones of a that b has not, and that neither b nor c has
 --   zero-bits, bits-zero            a word is 0 when its bits are, and only then
---   pow-bit, own-bit, own-lt        the words that have one bit alone
+--   own-bit, own-lt                 the words that have one bit alone
 --   word-xor, length-xor            the sum of words, word by word
 --   bit-in, bit-same, bit-added     a bit by its word and its place there; words read elsewhere
 --   bit-read, own-here, own-away    one bit as the code reads it, and as it makes it; either-read: one of two
@@ -123,7 +123,7 @@ pow-other k j n = go (decLt j k)
     go (yes h) = let e : suc (k - suc j) + j ≡ k = omega arith in ap (λ (x : ℕ). 2 ^ x / 2 ^ j % 2) (sym e) ∙ pow-even j (k - suc j)
     go (no h) = let g : suc k ≤ j = omega arith in ap (λ (x : ℕ). x % 2) (div-eq-of-lt (lt-of-lt-of-le (pow-lt (le-refl (suc k))) (pow-mono g)))
 
-pub pow-bit : (k j : ℕ) → bitOf (2 ^ k) j ≡ same k j
+pow-bit : (k j : ℕ) → bitOf (2 ^ k) j ≡ same k j
 pow-bit k j = go (same-dec k j)
   where
     go : (k ≡ j) ⊎ (k ≢ j) → bitOf (2 ^ k) j ≡ same k j

@@ -1,6 +1,5 @@
 -- THE ONES OF A WORD OF 64 DIGITS, from the top one down, as a loop takes them away.
 --   high-digit, low-digit             the digits of a word that has been shifted up
---   one-digit                         a word that has one digit alone
 --   zeros-lt, top-one, above-top      the top one of a word that is not 0, as the count of leading zeros finds it
 --   rest-less, gone-after, left-after the word without its top one
 --   Left x seen rest                  rest has the digits of x but the first `seen`, in place of which it has none
@@ -31,7 +30,7 @@ low-digit q e j =
     ∙ ap (λ (y : ℕ). digit (y % 2)) (shl-shr (q * 2 ^ suc e) j)
     ∙ ap digit (shifted-even q e)
 
-pub one-digit : (k : ℕ) → k < 64 → 1 * 2 ^ k % 2 ^ 64 ≡ 2 ^ k
+one-digit : (k : ℕ) → k < 64 → 1 * 2 ^ k % 2 ^ 64 ≡ 2 ^ k
 one-digit k l = ap (λ (y : ℕ). y % 2 ^ 64) (one-mul (2 ^ k)) ∙ mod-eq-of-lt (pow-lt l)
 
 -- ---- the top one of a word that is not 0
