@@ -19,7 +19,7 @@ ghost use Rattle.tableau.specs.View.{vals};
 ghost use Rattle.lists.specs.Listing.{numbers, isNew, isOther, FirstOnes, items, ListPut};
 
 // The code of the literal that gives v the value b.
-pub fn literal(v: usize, b: bool) -> u64
+fn literal(v: usize, b: bool) -> u64
     requires { ⌜ v ≤ maxVars ⌝ }
     ensures { λ x. ⌜ x ≡ code v b ⌝ }
 {
@@ -31,7 +31,7 @@ pub fn literal(v: usize, b: bool) -> u64
 }
 
 // The ones of x among its first k digits, the top one first.
-pub fn first_ones(x: u64, k: usize) -> u64
+fn first_ones(x: u64, k: usize) -> u64
     requires { ⌜ 0 < k ⌝ }
     ensures { λ r. ⌜ FirstOnes x k r ⌝ }
 {
@@ -44,7 +44,7 @@ pub fn first_ones(x: u64, k: usize) -> u64
 }
 
 // The ones of x are listed from place `at` on: that of digit i, the top one first, as s * (base + i + 1), and 1 more where t has a one too.
-pub fn list_word(x: u64, t: u64, s: u64, base: usize, at: usize, out: &mut [u64]) -> usize
+fn list_word(x: u64, t: u64, s: u64, base: usize, at: usize, out: &mut [u64]) -> usize
     requires { ⌜ (s ≤ 2) × (base + 64 ≤ maxVars) × (at + length (items 64 x t s base) ≤ length (now out)) ⌝ }
     ensures { λ r. ⌜ ListPut (length (now (out .entry))) at (items 64 x t s base) (now (out .entry)) (now (out .exit)) r ⌝ }
 {
@@ -94,7 +94,7 @@ pub fn list_known(work: &[u64], n: usize, out: &mut [u64]) -> usize
 }
 
 // From place 1 on, the negations of the values of the variables of row r but v.
-pub fn list_others(work: &[u64], r: usize, v: usize, n: usize, out: &mut [u64]) -> usize
+fn list_others(work: &[u64], r: usize, v: usize, n: usize, out: &mut [u64]) -> usize
     requires { ⌜ (size ≤ length (now work)) × (r < maxRows) × (n ≤ maxVars) × (n ≤ length (now out)) × (0 < v) × (v ≤ n) ⌝ }
     ensures { λ x. ⌜ ListPut n 1 (scanned n (isOther (now (work .entry)) r v) (λ u. not (vals (now (work .entry)) truthAt u))) (now (out .entry)) (now (out .exit)) x ⌝ }
 {
