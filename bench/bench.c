@@ -1,7 +1,7 @@
 /* bench [--smoke] [REPORT PLOT]: times the module against plain C and M4RI in one process, so that the ratios mean
- * something on any machine. The systems are seeded, several of a kind, so that no contestant meets the same one twice in
- * a row. In every round all contestants take their turn, one after another; a turn's time is that of its best batch of
- * calls, each batch over all systems, and for the calls of a search the mean over all systems. A ratio is the median
+ * something on any machine. The systems are seeded, several of a kind, so that no contestant meets the same one twice
+ * in a row. In every round all contestants take their turn, one after another; a turn's time is that of its best batch
+ * of calls, each batch over all systems, and for the calls of a search the mean over all systems. A ratio is the median
  * over the rounds. */
 #define _POSIX_C_SOURCE 199309L
 #include "bench.h"
