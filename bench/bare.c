@@ -1,6 +1,6 @@
 /* bare.c: the step of assume in C and nothing else: no header, no test of what is lent, rows exactly as wide as the
- * system, which is known when this is compiled, and a note in which row each variable became basic. So it is what the
- * method itself costs; where a hundredth of an opening is less, no module of this method reaches that. */
+ * system, which is known when this is compiled, and a note in which row each variable became basic. So it is about what
+ * the method itself costs. */
 #include "bench.h"
 #include <string.h>
 

@@ -150,7 +150,7 @@ static double take(const uint64_t *codes, size_t count)
     return us;
 }
 
-static double take_bare(void)
+static double take_bare(const uint64_t *codes, size_t count)
 {
     const bare_search *bare = bare_for(now->n, now->m);
     double start, us;
@@ -159,9 +159,9 @@ static double take_bare(void)
         return 0;
     bare->start(plain_rows, plain_eliminate[0](now->store, now->m, plain_rows));
     start = now_us();
-    for (i = 0; i < takes; i++)
-        done += bare->assume(taken[i], literals) != BARE_HAD;
-    us = (now_us() - start) / (double)takes;
+    for (i = 0; i < count; i++)
+        done += bare->assume(codes[i], literals) != BARE_HAD;
+    us = (now_us() - start) / (double)count;
     must(done == takes, "the bare step took other literals");
     return us;
 }
@@ -194,8 +194,9 @@ static void search(double *us, uint64_t *seed)
         shuffle(seed);
         rehearse();
         us[ASSUME] += take(offered, now->n) / systems;
+        us[BARE_ASSUME] += take_bare(offered, now->n) / systems;
         us[TAKE] += take(taken, takes) / systems;
-        us[BARE] += take_bare() / systems;
+        us[BARE_TAKE] += take_bare(taken, takes) / systems;
         us[EXPLAIN] += explain_all() / systems;
         us[BACK] += go_back() / systems;
     }

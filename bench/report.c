@@ -89,12 +89,17 @@ static double take_open(const double *us)
 
 static double take_bare(const double *us)
 {
-    return by(us[TAKE], us[BARE]);
+    return by(us[TAKE], us[BARE_TAKE]);
 }
 
-static double bare_open(const double *us)
+static double bare_assume_open(const double *us)
 {
-    return by(us[BARE], us[OPEN]);
+    return by(us[BARE_ASSUME], us[OPEN]);
+}
+
+static double bare_take_open(const double *us)
+{
+    return by(us[BARE_TAKE], us[OPEN]);
 }
 
 static double back_open(const double *us)
@@ -142,11 +147,12 @@ static const struct {
     const char *name;
     double (*of)(const double *us);
 } ratios[] = {{"open/M4RI", open_m4ri},      {"elim/plain", elim_plain},   {"read/open", read_open},
-              {"write/read", write_read},    {"assume/open", assume_open}, {"take/open", take_open},
-              {"bare/open", bare_open},      {"take/bare", take_bare},     {"back/open", back_open},
-              {"explain/open", explain_open}};
+              {"write/read", write_read},    {"assume/open", assume_open},
+              {"bare assume/open", bare_assume_open}, {"take/open", take_open},
+              {"bare take/open", bare_take_open}, {"take/bare", take_bare},
+              {"back/open", back_open}, {"explain/open", explain_open}};
 
-enum { RATIOS = 10 };
+enum { RATIOS = 11 };
 
 /* A number, or a dash for one that is missing. */
 static void cell(FILE *out, int width, int decimals, double number)
@@ -230,8 +236,8 @@ void write_report(FILE *out, const results *r)
             "- assume/open: a literal of each variable, offered in a random order; about half are taken, the others "
             "have a value by then\n"
             "- take/open: the taken ones alone\n"
-            "- bare/open, take/bare: the taken ones by the step of assume in C with nothing around it, compiled for "
-            "exactly this size (`bench/bare.c`): what the method costs\n"
+            "- bare assume, bare take: the same literals by the step of assume in C with nothing around it, its rows "
+            "as wide as the system and no wider (`bench/bare.c`)\n"
             "- back/open: steps of an eighth of the depth; explain/open: each implied variable\n\n");
     system_table(out, r);
     fprintf(out, "\n## Aims\n\n");
