@@ -2,6 +2,7 @@
 --   Clearing r w      the rows below r have been cleared
 --   exchange-rows     the rows afterwards
 --   exchange-rest     the words behind the rows stay
+--   exchange-homes    each row is the home of its basic variable
 -- Assumes nothing.
 use mathlib.Core.Path.{_≡_, refl, sym, ap, ap₂, _∙_}
 use mathlib.Core.List.{List}
@@ -22,10 +23,10 @@ use Rattle.linear.proofs.Assuming.{passed}
 use Rattle.linear.proofs.Exchange.{at-or-not, repoint-at, repoint-other}
 use Rattle.words.specs.Words.{digit, bitAt}
 use Rattle.words.proofs.Bits.{bit-same, bit-added}
-use Rattle.tableau.specs.Buffer.{basicAt, parityAt, Added, Chain}
+use Rattle.tableau.specs.Buffer.{basicAt, homeAt, parityAt, Added, Chain}
 use Rattle.tableau.specs.Layout.{maxVars, maxRows, rowAt, lastAt, knownAt, size}
-use Rattle.tableau.specs.View.{RowsRead}
-use Rattle.tableau.proofs.Reading.{prov-bit, digit-sum, basic-kept}
+use Rattle.tableau.specs.View.{RowsRead, Homes}
+use Rattle.tableau.proofs.Reading.{home-stay, prov-bit, digit-sum, basic-kept}
 use Rattle.exchange.specs.Steps.{RowCleared, Exchanged}
 
 module _ (n k : ℕ) (ws : List ℕ) (R : ℕ → Row) (β : ℕ → ℕ) (S : ℕ → ℕ → Bool) (p u : ℕ) (lk : k ≤ maxRows) (lp : p < k) (lu : 0 < u) (hu : u ≤ maxVars) (rr : RowsRead n k ws R β S) where
@@ -145,3 +146,14 @@ module _ (n k : ℕ) (ws : List ℕ) (R : ℕ → Row) (β : ℕ → ℕ) (S : �
 
     pub exchange-rest : (i : ℕ) → knownAt ≤ i → getD w i 0 ≡ getD ws i 0
     exchange-rest i h = other-word i (λ (z : i ≡ lastAt p). absurd (omega arith)) ∙ c .todo i (omega arith)
+
+    -- each row is the home of its basic variable, where row p was made that of u
+    pub exchange-homes : homeAt ws u ≡ p → ((r : ℕ) → r < k → r ≢ p → homeAt ws (basicAt ws r) ≡ r) → Homes k w
+    exchange-homes h hs r l = go (same-dec r p)
+      where
+        stay : (v : ℕ) → homeAt w v ≡ homeAt ws v
+        stay = home-stay ws w (λ i z. exchange-rest i (omega arith))
+
+        go : (r ≡ p) ⊎ (r ≢ p) → homeAt w (basicAt w r) ≡ r
+        go (inl e) = ap (homeAt w) (basics r l (inl e) ∙ ap (repoint β p u) e ∙ repoint-at β p u) ∙ stay u ∙ h ∙ sym e
+        go (inr d) = ap (homeAt w) (basics r l (inr d) ∙ repoint-other β p u r d ∙ sym (rr .basic r l)) ∙ stay (basicAt ws r) ∙ hs r l d

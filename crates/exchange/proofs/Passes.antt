@@ -2,7 +2,7 @@
 --   turned-idle                  a row without variable u is turned as it is
 --   turned-else, turned-after    a row that is turned keeps the words of all others, and so of those after it
 --   pivot-stays                  row p keeps its variables while rows are turned
---   partner-has                  row p has the variable that was chosen for it, also after an entry of the record has been set
+--   partner-has                  row p has the variable that was chosen for it, also after a home and an entry of the record have been set
 -- Assumes nothing.
 use mathlib.Core.Path.{_≡_, refl, sym, ap, _∙_}
 use mathlib.Core.List.{List}
@@ -16,8 +16,8 @@ use lib.Seq.{getD-set-other}
 use Rattle.gf2.proofs.Search.{and-both}
 use Rattle.words.specs.Words.{bitAt}
 use Rattle.words.proofs.Bits.{bit-same}
-use Rattle.tableau.specs.Layout.{maxVars, maxRows, rowSize, rowAt, lastAt, knownAt}
-use Rattle.tableau.specs.Buffer.{Recorded, Chain}
+use Rattle.tableau.specs.Layout.{maxVars, maxRows, rowSize, rowAt, lastAt, knownAt, recordAt}
+use Rattle.tableau.specs.Buffer.{Chain}
 use Rattle.settle.specs.Values.{lacks}
 use Rattle.settle.proofs.Blocks.{settled-rows}
 use Rattle.exchange.specs.Steps.{Partner, pointed, RowTurned, idle, added, centre}
@@ -59,9 +59,9 @@ lacks-has : (ws : List ℕ) (r i : ℕ) → lacks ws r i ≡ true → bitAt ws (
 unfolding lacks
 lacks-has ws r i h = and-both (bitAt ws (rowAt r) i) (not (bitAt ws knownAt i)) h .0
 
-pub partner-has : (ws w : List ℕ) (p q u d code : ℕ) → p < maxRows → 0 < u → Partner ws p q u → Recorded d code ws w → bitAt w (rowAt p) (u - 1) ≡ true
-partner-has ws w p q u d code lp pos h rec =
+pub partner-has : (ws w : List ℕ) (p q u : ℕ) → p < maxRows → 0 < u → Partner ws p q u → ((i : ℕ) → i < recordAt → getD w i 0 ≡ getD ws i 0) → bitAt w (rowAt p) (u - 1) ≡ true
+partner-has ws w p q u lp pos h rest =
     let e : u ≡ suc (u - 1) = omega arith in
     let f = h .some (u - 1) e in
     let l = f .0 in
-    bit-same ws w (rowAt p) (rowAt p) (u - 1) (rec .rest (rowAt p + (u - 1) / 64) (omega arith)) ∙ lacks-has ws p (u - 1) (f .2)
+    bit-same ws w (rowAt p) (rowAt p) (u - 1) (rest (rowAt p + (u - 1) / 64) (omega arith)) ∙ lacks-has ws p (u - 1) (f .2)

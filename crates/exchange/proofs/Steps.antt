@@ -25,16 +25,16 @@ use Rattle.linear.proofs.Assuming.{given, conflicts, partner, passed, exchange-
 use Rattle.linear.proofs.Exchange.{at-or-not}
 use Rattle.words.specs.Words.{bitAt}
 use Rattle.words.proofs.Bits.{bit-same}
-use Rattle.tableau.specs.Buffer.{entryAt, Recorded}
-use Rattle.tableau.specs.Layout.{maxVars, knownAt, truthAt, rowAt}
-use Rattle.tableau.specs.View.{LitsRead, MadeAt}
-use Rattle.tableau.proofs.Reading.{entry-stay, lits-stay, bit-of}
+use Rattle.tableau.specs.Buffer.{basicAt, entryAt, homeAt, Recorded, Homed}
+use Rattle.tableau.specs.Layout.{maxVars, knownAt, truthAt, rowAt, size}
+use Rattle.tableau.specs.View.{RowsRead, LitsRead, MadeAt}
+use Rattle.tableau.proofs.Reading.{rows-stay, entry-stay, homed-other, lits-stay, bit-of}
 use Rattle.settle.specs.Values.{lacks, Followed}
 use Rattle.settle.proofs.Follows.{follow-made}
 use Rattle.exchange.specs.declared.Offer.{Offer}
 use Rattle.exchange.specs.declared.Offer.the-variants as offer
 use Rattle.exchange.specs.Steps.{Partner, Found, Exchanged, Took, followed, turned, stuck, Stepped, Outcome}
-use Rattle.exchange.proofs.Exchanges.{exchange-rows, exchange-rest}
+use Rattle.exchange.proofs.Exchanges.{exchange-rows, exchange-rest, exchange-homes}
 use Rattle.exchange.proofs.Finds.{found-none}
 use Rattle.exchange.proofs.Turns.{Apart, turned-apart}
 
@@ -73,11 +73,11 @@ module _ (n m : ℕ) (Sheet : ℕ → Row) (kept : ℕ → Bool) (d : ℕ) (x : 
     own-bits r l = let a = mv .low in let b = mv .high in let c = s .vars in s .rows .coefs r l (v - 1) (omega arith) ∙ ap (s .R r) (bit-of v (mv .low))
 
     free-at : Found ws k v k → FreeAt ws n m Sheet kept d x y k v
-    free-at f = record { at = s; nonbasic = found-none n k v ws (s .R) (s .β) (s .made .built .tableau) (s .rows .basic) own-bits f; unknown = un }
+    free-at f = record { at = s; nonbasic = found-none k v ws (s .β) (s .homes) (s .rows .basic) f; unknown = un }
 
     module _ (p : ℕ) (l : p < k) (f : Found ws k v p) where
       here : s .β p ≡ v
-      here = sym (s .rows .basic p l) ∙ f .here l
+      here = sym (s .rows .basic p l) ∙ f .here l .1
 
       in-row : bitAt ws (rowAt p) (v - 1) ≡ true
       in-row = own-bits p l ∙ ap (s .R p) (sym here) ∙ s .made .built .tableau .own p l
@@ -97,8 +97,8 @@ module _ (n m : ℕ) (Sheet : ℕ → Row) (kept : ℕ → Bool) (d : ℕ) (x : 
           (lacks-is p l (o .0 - 1) i ∙ rw (ap (s .R p) e ∙ o .2, ap (s .known) e ∙ o .4))
           (q .none refl (o .0 - 1) i (λ z. o .3 (sym e ∙ ap suc z ∙ bit-of v (mv .low) ∙ sym here)))
 
-      moved-at : (u : ℕ) (w : List ℕ) → length w ≡ length ws → Partner ws p (v - 1) u → 0 < u → Exchanged k p u ws w → FreeAt w n m Sheet kept d x y k v
-      moved-at u w len q pos ex = go (u - 1) (bit-of u pos)
+      moved-at : (u : ℕ) (z w : List ℕ) → length w ≡ length ws → Partner ws p (v - 1) u → 0 < u → Homed u p ws z → Exchanged k p u z w → FreeAt w n m Sheet kept d x y k v
+      moved-at u z w len q pos home ex = go (u - 1) (bit-of u pos)
         where
           go : (i : ℕ) → suc i ≡ u → FreeAt w n m Sheet kept d x y k v
           go i e = record { at = after; nonbasic = rw here at (exchange-frees n m Sheet kept d x y k (s .R) (s .β) (s .S) (s .known) (s .truth) (s .made) p u l mu ru du ku kp); unknown = un }
@@ -119,7 +119,7 @@ module _ (n m : ℕ) (Sheet : ℕ → Row) (kept : ℕ → Bool) (d : ℕ) (x : 
               kp = ap (s .known) here ∙ un
 
               du : u ≢ s .β p
-              du z = o .1 (same-bit (z ∙ here))
+              du g = o .1 (same-bit (g ∙ here))
                 where
                   same-bit : u ≡ v → i ≡ v - 1
                   same-bit z = omega arith
@@ -136,8 +136,22 @@ module _ (n m : ℕ) (Sheet : ℕ → Row) (kept : ℕ → Bool) (d : ℕ) (x : 
               upper : u ≤ maxVars
               upper = let h = o .0 in omega arith
 
-              rest : (j : ℕ) → knownAt ≤ j → getD w j 0 ≡ getD ws j 0
-              rest = exchange-rest n k ws (s .R) (s .β) (s .S) p u (s .few) l pos upper (s .rows) w (s .room) ex
+              rows : RowsRead n k z (s .R) (s .β) (s .S)
+              rows = rows-stay n k ws z (s .R) (s .β) (s .S) (s .few) (λ j h. home .rest j (omega arith)) (s .rows)
+
+              big : size ≤ length z
+              big = let h = s .room in let g = home .len in omega arith
+
+              rest : (j : ℕ) → knownAt ≤ j → getD w j 0 ≡ getD z j 0
+              rest = exchange-rest n k z (s .R) (s .β) (s .S) p u (s .few) l pos upper rows w big ex
+
+              -- a row but p has another basic variable than u, which row p has
+              at-home : (r : ℕ) → r < k → r ≢ p → homeAt z (basicAt z r) ≡ r
+              at-home r lr e =
+                  let c = s .few in
+                  let b = s .rows .basic r lr in
+                  let lo = s .made .built .tableau .var r lr .low in
+                  homed-other u p ws z home r (omega arith) (omega arith) (λ g. clash (s .R p u) ru (ap (s .R p) (sym g ∙ b) ∙ s .made .built .tableau .alone r p lr l e)) (s .homes r lr)
 
               after : MadeAt w n m Sheet kept d x y k
               after =
@@ -150,13 +164,14 @@ module _ (n m : ℕ) (Sheet : ℕ → Row) (kept : ℕ → Bool) (d : ℕ) (x : 
                     vars = s .vars;
                     few = s .few;
                     room = let h = s .room in omega arith;
-                    rows = exchange-rows n k ws (s .R) (s .β) (s .S) p u (s .few) l pos upper (s .rows) w (s .room) ex;
+                    rows = exchange-rows n k z (s .R) (s .β) (s .S) p u (s .few) l pos upper rows w big ex;
                     values = record {
                       within = s .values .within;
-                      knows = λ j h. bit-same ws w knownAt knownAt j (rest (knownAt + j / 64) (omega arith)) ∙ s .values .knows j h;
-                      trues = λ j h. bit-same ws w truthAt truthAt j (rest (truthAt + j / 64) (omega arith)) ∙ s .values .trues j h;
+                      knows = λ j h. bit-same ws w knownAt knownAt j (rest (knownAt + j / 64) (omega arith) ∙ home .rest (knownAt + j / 64) (omega arith)) ∙ s .values .knows j h;
+                      trues = λ j h. bit-same ws w truthAt truthAt j (rest (truthAt + j / 64) (omega arith) ∙ home .rest (truthAt + j / 64) (omega arith)) ∙ s .values .trues j h;
                     };
-                    lits = lits-stay d ws w x y (λ j h. entry-stay ws w (λ i g. rest i (omega arith)) j) (s .lits);
+                    lits = lits-stay d ws w x y (λ j h. entry-stay z w (λ i g. rest i (omega arith)) j ∙ home .entries j) (s .lits);
+                    homes = exchange-homes n k z (s .R) (s .β) (s .S) p u (s .few) l pos upper rows w big ex (home .here) at-home;
                     made = exchange-made n m Sheet kept d x y k (s .R) (s .β) (s .S) (s .known) (s .truth) (s .made) p u l mu ru du ku kp;
                   }
 
@@ -183,7 +198,7 @@ module _ (n m : ℕ) (Sheet : ℕ → Row) (kept : ℕ → Bool) (d : ℕ) (x : 
   take-made mv r v w rc len f =
       follow-made n m Sheet kept d x y k ws s (variable code) (value code) mv (r .nonbasic) (r .unknown) (with-at x d (variable code)) (with-bool y d (value code)) at-below bool-below at-here bool-here
       (taken-more n m Sheet kept d x y k (s .R) (s .β) (s .S) (s .known) (s .truth) (s .made) (variable code) mv (r .nonbasic) (r .unknown) (with-at x d (variable code)) at-below at-here)
-      v w len (rc .rest) lits f
+      v w len (rc .rest) (rc .homes) lits f
     where
       s : MadeAt ws n m Sheet kept d x y k
       s = r .at
@@ -236,12 +251,20 @@ module _ (n m : ℕ) (Sheet : ℕ → Row) (kept : ℕ → Bool) (d : ℕ) (x : 
 
       go : Took k d code ws w true → MadeAt w n m Sheet kept (suc d) (with-at x d (variable code)) (with-bool y d (value code)) k
       go (followed v f rc fo) = take-made n m Sheet kept d x y k ws code mv (free-at n m Sheet kept d x y k ws s (variable code) mv un f) v w rc len fo
-      go (turned p u v l f q pos rc tu) = take-made n m Sheet kept d x y k (a .exchanged) code mv (moved-at n m Sheet kept d x y k ws s (variable code) mv un p l f u (a .exchanged) (a .long) q pos (a .move)) (a .recorded) w (a .entry) (len ∙ sym (a .long)) (a .values)
+      go (turned p u z v l f q pos home rc tu) =
+          take-made n m Sheet kept d x y k (a .exchanged) code mv (moved-at n m Sheet kept d x y k ws s (variable code) mv un p l f u z (a .exchanged) (a .long ∙ home .len) q pos home (a .move)) (a .recorded) w (a .entry) (len ∙ sym (a .long ∙ home .len)) (a .values)
         where
-          a : Apart k p u (variable code - 1) (value code) d code ws w
+          lo : 0 < variable code
+          lo = mv .low
+
+          hi : variable code ≤ maxVars
+          hi = let h = mv .high in let c = s .vars in omega arith
+
+          -- the rows after the home has been set
+          same-row : (r : ℕ) → r < k → bitAt z (rowAt r) (variable code - 1) ≡ bitAt ws (rowAt r) (variable code - 1)
+          same-row r lr = let c = s .few in bit-same ws z (rowAt r) (rowAt r) (variable code - 1) (home .rest (rowAt r + (variable code - 1) / 64) (omega (arith, lo, hi)))
+
+          a : Apart k p u (variable code - 1) (value code) d code z w
           a =
-              let lo = mv .low in
-              let hi = mv .high in
-              let c = s .vars in
-              turned-apart k p u (variable code - 1) (value code) d code ws v w (s .few) l (partner-high ws p _ u q) (omega arith) (s .room) len
-              (in-no-other n m Sheet kept d x y k ws s (variable code) mv un p l f) (in-row n m Sheet kept d x y k ws s (variable code) mv un p l f) rc tu
+              turned-apart k p u (variable code - 1) (value code) d code z v w (s .few) l (partner-high ws p _ u q) (omega (arith, lo, hi)) (let b = s .room in let g = home .len in omega arith) (len ∙ sym (home .len))
+              (λ r lr e. same-row r lr ∙ in-no-other n m Sheet kept d x y k ws s (variable code) mv un p l f r lr e) (same-row p l ∙ in-row n m Sheet kept d x y k ws s (variable code) mv un p l f) rc tu

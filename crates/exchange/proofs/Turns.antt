@@ -19,7 +19,7 @@ use Rattle.words.specs.Words.{digit, bitAt}
 use Rattle.words.proofs.Bits.{bit-same, bit-added}
 use Rattle.tableau.specs.Buffer.{basicAt, Added, Recorded, Chain}
 use Rattle.tableau.specs.Layout.{maxVars, maxRows, coefWords, fromWords, rowSize, rowAt, lastAt, knownAt, truthAt, recordAt, size}
-use Rattle.tableau.proofs.Reading.{entry-stay}
+use Rattle.tableau.proofs.Reading.{entry-stay, home-stay}
 use Rattle.settle.specs.Values.{lacks, Put, Can, valueAt, RowSettled, RowFollowed, Followed}
 use Rattle.settle.proofs.Blocks.{settled-rows}
 use Rattle.exchange.specs.Steps.{RowCleared, Exchanged, pointed, RowTurned, idle, added, centre, Turned}
@@ -322,6 +322,7 @@ module _ (k p u q : ℕ) (b : Bool) (d code : ℕ) (ws y w : List ℕ) (lk : k �
         len = mix-length knownAt w y ∙ rec .len ∙ sym moved-length;
         here = entry-stay y (over w y) (λ i l. mix-back knownAt w y i (omega arith)) d ∙ rec .here;
         others = λ i n. entry-stay y (over w y) (λ j l. mix-back knownAt w y j (omega arith)) i ∙ rec .others i n ∙ sym (entry-stay ws moved (λ j l. moved-back j (omega arith)) i);
+        homes = λ v. home-stay y (over w y) (λ i l. mix-back knownAt w y i (omega arith)) v ∙ rec .homes v ∙ sym (home-stay ws moved (λ i l. moved-back i (omega arith)) v);
         rest = λ i l. rest i l (decLt i knownAt);
       }
     where

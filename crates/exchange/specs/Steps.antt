@@ -1,9 +1,7 @@
 -- WHAT A LITERAL DOES TO THE BUFFER (document 01, "Assuming"): on every buffer, and what it means for a state of the module.
 --   RowCleared p i r ws w    row p has been added to row r, if that is another and has variable i + 1
 --   Partner ws r p x         x is the lowest variable of row r that has no value and is not p + 1, or 0 where there is none
---   First ws k p x           x is the first row below k that has variable p + 1, or k
---   Absent ws k v            no row below k has variable v, or one has it in which another is basic
---   Found ws k v x           x is a row below k whose basic variable is v; or it is k, and v is absent
+--   Found ws k v x           x is the home of variable v, which is below k and has v as its basic variable; or it is k, and the home of v is no such row
 --   pointed p u ws           the buffer with u as the basic variable of row p
 --   Exchanged k p u ws w     variable u has been removed from the rows below k but p, and is basic in row p
 --   RowTurned p u r ws w     row p has been added to row r, if that has variable u, and row r has then been settled; row p itself has been pointed to u and settled
@@ -24,11 +22,11 @@ use Rattle.linear.specs.Systems.{Implied, Conflict, And, Literals}
 use Rattle.linear.specs.State.{with-at, with-bool}
 use Rattle.words.specs.Words.{bitAt}
 use Rattle.tableau.specs.Layout.{maxVars, rowAt, lastAt, knownAt, truthAt}
-use Rattle.tableau.specs.Buffer.{basicAt, Added, Recorded, Chain}
+use Rattle.tableau.specs.Buffer.{basicAt, homeAt, Added, Recorded, Homed, Chain}
 use Rattle.tableau.specs.View.{MadeAt}
 use Rattle.exchange.specs.declared.Offer.{Offer}
 use Rattle.exchange.specs.declared.Offer.the-variants as offer
-use Rattle.settle.specs.Values.{lacks, Put, RowSettled, Without, Followed}
+use Rattle.settle.specs.Values.{lacks, Put, RowSettled, Followed}
 
 abbrev pub RowCleared : (p i : ℕ) → ℕ → List ℕ → List ℕ → Type 0
 RowCleared p i r ws w = ((w ≡ ws) × ((r ≡ p) ⊎ (bitAt ws (rowAt r) i ≡ false))) ⊎ ((r ≢ p) × (bitAt ws (rowAt r) i ≡ true) × Added p r ws w)
@@ -38,18 +36,10 @@ pub record Partner (ws : List ℕ) (r p x : ℕ) : Type 0 where
   pub some : (i : ℕ) → x ≡ suc i → (i < maxVars) × (i ≢ p) × (lacks ws r i ≡ true)
   pub least : (i : ℕ) → suc i < x → i ≢ p → lacks ws r i ≡ false
 
-pub record First (ws : List ℕ) (k p x : ℕ) : Type 0 where
-  pub upto : x ≤ k
-  pub before : Without ws x p
-  pub here : x < k → bitAt ws (rowAt x) p ≡ true
-
-abbrev pub Absent : List ℕ → ℕ → ℕ → Type 0
-Absent ws k v = ((r : ℕ) → r < k → bitAt ws (rowAt r) (v - 1) ≡ false) ⊎ ((r : ℕ) × (r < k) × (bitAt ws (rowAt r) (v - 1) ≡ true) × (basicAt ws r ≢ v))
-
 pub record Found (ws : List ℕ) (k v x : ℕ) : Type 0 where
   pub upto : x ≤ k
-  pub here : x < k → basicAt ws x ≡ v
-  pub none : x ≡ k → Absent ws k v
+  pub here : x < k → (homeAt ws v ≡ x) × (basicAt ws x ≡ v)
+  pub none : x ≡ k → homeAt ws v < k → basicAt ws (homeAt ws v) ≢ v
 
 abbrev pub pointed : ℕ → ℕ → List ℕ → List ℕ
 pointed p u ws = set ws (lastAt p) (2 * u + getD ws (lastAt p) 0 % 2)
@@ -72,7 +62,7 @@ pub record Turned (k p u q : ℕ) (b : Bool) (ws w : List ℕ) : Type 0 where
 
 pub data Took (k d code : ℕ) (ws w : List ℕ) : Bool → Type 0 where
   followed : (v : List ℕ) → Found ws k (variable code) k → Recorded d code ws v → Followed k (variable code - 1) (value code) v w → Took k d code ws w true
-  turned : (p u : ℕ) (v : List ℕ) → p < k → Found ws k (variable code) p → Partner ws p (variable code - 1) u → 0 < u → Recorded d code ws v → Turned k p u (variable code - 1) (value code) v w → Took k d code ws w true
+  turned : (p u : ℕ) (z v : List ℕ) → p < k → Found ws k (variable code) p → Partner ws p (variable code - 1) u → 0 < u → Homed u p ws z → Recorded d code z v → Turned k p u (variable code - 1) (value code) v w → Took k d code ws w true
   stuck : (p : ℕ) → p < k → Found ws k (variable code) p → Partner ws p (variable code - 1) 0 → w ≡ ws → Took k d code ws w false
 
 abbrev pub Stepped : (k n d code : ℕ) → List ℕ → List ℕ → Offer → Type 0

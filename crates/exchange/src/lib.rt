@@ -10,7 +10,9 @@ use tableau::TRUTH;
 use tableau::add_row;
 use tableau::block_end;
 use tableau::column;
+use tableau::home;
 use tableau::set_entry;
+use tableau::set_home;
 use words::bit;
 use words::own;
 use words::without;
@@ -21,7 +23,7 @@ ghost use lib.ListN.{length};
 ghost use Rattle.words.specs.Words.{bitAt};
 ghost use Rattle.tableau.specs.Layout.{maxVars, maxRows, maxTaken, rowAt, size};
 ghost use Rattle.tableau.specs.Buffer.{Span};
-ghost use Rattle.exchange.specs.Steps.{Partner, First, Found, pointed, RowTurned, Turned, Took, Stepped};
+ghost use Rattle.exchange.specs.Steps.{Partner, Found, pointed, RowTurned, Turned, Took, Stepped};
 
 // The lowest variable of row r that has no value and is not v, or 0. On a state of the module, where v is basic in row r, it is not basic.
 fn partner(work: &[u64], r: usize, v: usize) -> usize
@@ -48,40 +50,18 @@ fn partner(work: &[u64], r: usize, v: usize) -> usize
     found
 }
 
-// The first row below k that has the variable v, or k.
-fn first(work: &[u64], k: usize, v: usize) -> usize
-    requires { ⌜ (size ≤ length (now work)) × (k ≤ maxRows) × (0 < v) × (v ≤ maxVars) ⌝ }
-    ensures { λ x. ⌜ First (now (work .entry)) k (v - 1) x ⌝ }
-{
-    let mut r = 0;
-    while r < k {
-        if bit(work, ROW * r, v) {
-            return r;
-        }
-        r += 1;
-    }
-    k
-}
-
-// The row below k whose basic variable is v, or k. A basic variable stands in no other row, so the first row a that has v decides.
-fn own_row(work: &[u64], k: usize, v: usize, a: usize) -> usize
-    requires { ⌜ (size ≤ length (now work)) × (k ≤ maxRows) × First (now work) k (v - 1) a ⌝ }
-    ensures { λ x. ⌜ Found (now (work .entry)) k v x ⌝ }
-{
-    if a == k {
-        return k;
-    }
-    let basic = work[ROW * a + LAST] / 2;
-    if basic == v as u64 { a } else { k }
-}
-
-// The row below k whose basic variable is v, or k.
+// The row below k whose basic variable is v, or k. On a state of the module each row is the home of its basic variable, so the home of v decides.
 pub fn find(work: &[u64], k: usize, v: usize) -> usize
     requires { ⌜ (size ≤ length (now work)) × (k ≤ maxRows) × (0 < v) × (v ≤ maxVars) ⌝ }
     ensures { λ x. ⌜ Found (now (work .entry)) k v x ⌝ }
 {
-    let a = first(work, k, v);
-    own_row(work, k, v, a)
+    let x = home(work, v);
+    if x >= k as u64 {
+        return k;
+    }
+    let r = x as usize;
+    let basic = work[ROW * r + LAST] / 2;
+    if basic == v as u64 { r } else { k }
 }
 
 // Variable u is the basic variable of row p.
@@ -141,17 +121,17 @@ fn take(work: &mut [u64], k: usize, d: usize, code: usize) -> bool
 {
     let v = code / 2;
     let b = code % 2 == 0;
-    let a = first(work, k, v);
-    let p = own_row(work, k, v, a);
+    let p = find(work, k, v);
     if p == k {
         set_entry(work, d, code as u64);
-        follow(work, a, k, v, b);
+        follow(work, 0, k, v, b);
         return true;
     }
     let u = partner(work, p, v);
     if u == 0 {
         return false;
     }
+    set_home(work, u, p);
     set_entry(work, d, code as u64);
     turn(work, k, p, u, v, b);
     true

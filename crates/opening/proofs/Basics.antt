@@ -1,6 +1,7 @@
 -- THE KEPT ROWS HAVE THEIR BASIC VARIABLES, whatever the buffer held before opening.
 --   basics-below       the words before row k stay
 --   basics-loaded      a row of the store stands behind the rows; basics-reduced: it is reduced by one of them, basics-chain: by several
+--   basics-homed       a home is set
 --   basics-exchanged   a variable becomes basic in the row behind the rows
 -- Assumes nothing.
 use mathlib.Core.Path.{_≡_, ap, _∙_}
@@ -13,7 +14,7 @@ use lib.ListN.{length, getD}
 use lib.Seq.{getD-set-same, getD-set-other}
 use Rattle.linear.proofs.Exchange.{at-or-not}
 use Rattle.linear.proofs.Insert.{below}
-use Rattle.tableau.specs.Buffer.{basicAt, Added, Chain}
+use Rattle.tableau.specs.Buffer.{basicAt, Added, Homed, Chain}
 use Rattle.tableau.specs.Layout.{maxVars, maxRows, rowAt, lastAt, size}
 use Rattle.tableau.proofs.Reading.{basic-kept}
 use Rattle.exchange.specs.Steps.{RowCleared, Exchanged}
@@ -49,6 +50,9 @@ basic-cleared p i (suc k) ws w c q = go (c .3) ∙ basic-cleared p i k ws (c .0)
     go : RowCleared p i k (c .0) w → basicAt w q ≡ basicAt (c .0) q
     go (inl h) = ap (λ (l : List ℕ). basicAt l q) (h .0)
     go (inr h) = basic-added p k (c .0) w (h .2) q
+
+pub basics-homed : (k u p : ℕ) (ws w : List ℕ) → k ≤ maxRows → Homed u p ws w → Basics k ws → Basics k w
+basics-homed k u p ws w l h = basics-below k ws w (λ i z. h .rest i (omega arith))
 
 pub basics-exchanged : (k u : ℕ) (ws w : List ℕ) → size ≤ length ws → k < maxRows → 0 < u → u ≤ maxVars → Exchanged (k + 1) k u ws w → Basics k ws → Basics (suc k) w
 basics-exchanged k u ws w big lk lo hi ex b = at-or-not (suc k) k (λ r. (0 < basicAt w r) × (basicAt w r ≤ maxVars)) here other

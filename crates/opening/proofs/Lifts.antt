@@ -7,7 +7,7 @@
 use mathlib.Core.Path.{_≡_, refl, sym, ap, ap₂, _∙_}
 use mathlib.Core.List.{List}
 use mathlib.Core.Bool.{Bool, true, false, _&&_, and-false, true≢false}
-use mathlib.Core.Logic.{inl, inr}
+use mathlib.Core.Logic.{inl, inr, _≢_}
 use Prim.Native.Nat.{ℕ, zero, suc, _+_, _*_, _-_, _/_, _%_, _<_, _≤_}
 use native.Mathlib.Nat.{not-suc-le-zero}
 use native.Mathlib.Omega.{arith}
@@ -21,20 +21,21 @@ use Rattle.linear.specs.State.{KeptPlaces}
 use Rattle.linear.specs.Systems.{combine, Tableau, reduce, extend, pivot, repoint}
 use Rattle.linear.proofs.Assuming.{passed}
 use Rattle.linear.proofs.Exchange.{at-or-not, repoint-at, repoint-other}
-use Rattle.linear.proofs.Insert.{extend-at, extend-other, below}
+use Rattle.linear.proofs.Insert.{extend-at, extend-other, reduce-basic, below}
 use Rattle.linear.proofs.Opening.{reduce-more, left-over, others, source, skip-built, fails, insert-built}
 use Rattle.words.specs.Words.{digit, bitAt}
 use Rattle.words.proofs.Bits.{bit-same, bit-added, own-at}
-use Rattle.tableau.specs.Buffer.{basicAt, parityAt, Added, Chain}
+use Rattle.tableau.specs.Buffer.{basicAt, homeAt, parityAt, Added, Homed, Chain}
 use Rattle.tableau.specs.Layout.{maxVars, maxRows, rowAt, fromAt, lastAt, size}
 use Rattle.tableau.specs.View.{RowsRead, BuiltAt}
-use Rattle.tableau.proofs.Reading.{bit-of, rows-below, prov-bit, digit-sum, basic-kept}
-use Rattle.exchange.proofs.Exchanges.{exchange-rows}
+use Rattle.tableau.proofs.Reading.{bit-of, rows-below, rows-stay, homed-other, prov-bit, digit-sum, basic-kept}
+use Rattle.exchange.proofs.Exchanges.{exchange-rows, exchange-homes}
 use Rattle.exchange.specs.Steps.{Exchanged}
 use Rattle.opening.specs.declared.RowCase.{RowCase}
 use Rattle.opening.specs.declared.RowCase.the-variants.{Redundant, Contradictory, Kept}
 use Rattle.opening.specs.Opened.{Loaded, Reduced, LowestAt, RowDone, RowOutcome}
 use Rattle.words.specs.Store.{StoreRead}
+use Rattle.opening.proofs.Homes.{homes-loaded, homes-chain}
 
 -- row k of the buffer, which has no basic variable yet
 pub record Slot (n k : ℕ) (w : List ℕ) (a : Row) (s : ℕ → Bool) : Type 0 where
@@ -158,11 +159,15 @@ module _ (n m : ℕ) (Sheet : ℕ → Row) (kept : ℕ → Bool) (kp : KeptPlace
   none-coefs w sl s (suc i) mv = let h = mv .high in let l : i < maxVars = omega arith in sym (sl .coefs i l) ∙ s .none refl i l
 
   -- a variable is left: it becomes basic in the new row
-  grown : (w a v : List ℕ) (u : ℕ) → Loaded q k store ws a → Chain (Reduced k) k a v → LowestAt v k u → 0 < u → length v ≡ length ws → Exchanged (k + 1) k u v w → BuiltAt w n m Sheet kept (suc q) (suc k)
-  grown w a v u h c s pos len ex = more (u - 1) (bit-of u pos)
+  grown : (w a v z : List ℕ) (u : ℕ) → Loaded q k store ws a → Chain (Reduced k) k a v → LowestAt v k u → 0 < u → length v ≡ length ws → Homed u k v z → Exchanged (k + 1) k u z w → BuiltAt w n m Sheet kept (suc q) (suc k)
+  grown w a v z u h c s pos len home ex = more (u - 1) (bit-of u pos)
     where
       f : RowsRead n k v (b .R) (b .β) (b .S) × Slot n k v left src
       f = after a v h c
+
+      -- the rows with row k behind them, after its home has been set
+      rows : RowsRead n (suc k) z (extend (b .R) k left) (repoint (b .β) k 0) (extend (b .S) k src)
+      rows = rows-stay n (suc k) v z _ _ _ lk (λ i l. home .rest i (omega arith)) (slot-rows n k v (b .R) (b .β) (b .S) left src (f .0) (f .1))
 
       more : (i : ℕ) → suc i ≡ u → BuiltAt w n m Sheet kept (suc q) (suc k)
       more i e =
@@ -170,13 +175,19 @@ module _ (n m : ℕ) (Sheet : ℕ → Row) (kept : ℕ → Bool) (kp : KeptPlace
             R = pivot (extend (b .R) k left) k u;
             β = repoint (b .β) k u;
             S = passed (extend (b .S) k src) (extend (b .R) k left) k u;
-            rows = rows-basic n (suc k) w _ _ _ _ twice
-                (exchange-rows n (suc k) v (extend (b .R) k left) (repoint (b .β) k 0) (extend (b .S) k src) k u (omega arith) (omega arith) pos upper (slot-rows n k v (b .R) (b .β) (b .S) left src (f .0) (f .1)) w (omega arith) (rw (add-one k) at ex));
+            rows = rows-basic n (suc k) w _ _ _ _ twice (exchange-rows n (suc k) z _ _ _ k u lk (omega arith) pos upper rows w room moved);
+            homes = exchange-homes n (suc k) z _ _ _ k u lk (omega arith) pos upper rows w room moved (home .here) at-home;
             built = insert-built n m Sheet kept kp q lq k (b .R) (b .β) (b .S) (b .built) u mu eu;
           }
         where
           upper : u ≤ maxVars
           upper = s .upto
+
+          room : size ≤ length z
+          room = omega (arith, home .len)
+
+          moved : Exchanged (suc k) k u z w
+          moved = rw (add-one k) at ex
 
           small : i < maxVars
           small = let h = s .upto in omega arith
@@ -190,6 +201,14 @@ module _ (n m : ℕ) (Sheet : ℕ → Row) (kept : ℕ → Bool) (kp : KeptPlace
               le : (x y : ℕ) → (y < x → ⊥) → x ≤ y
               le x y g = omega (arith, g)
 
+          -- the basic variables of the rows before are not left in the new row, and so u is none of them
+          at-home : (r : ℕ) → r < suc k → r ≢ k → homeAt z (basicAt z r) ≡ r
+          at-home r l d =
+              let lr = below k r l d in
+              let e = f .0 .basic r lr in
+              let lo = b .built .tableau .var r lr .low in
+              homed-other u k v z home r (omega arith) (omega arith) (λ g. true≢false (sym eu ∙ ap left (sym g ∙ e) ∙ reduce-basic n k (b .R) (b .β) (b .built .tableau) (Sheet q) r lr)) (homes-chain k lk k a v c (homes-loaded q k lk store ws a h (b .homes)) r lr)
+
           twice : (r : ℕ) → r < suc k → repoint (repoint (b .β) k 0) k u r ≡ repoint (b .β) k u r
           twice = at-or-not (suc k) k (λ r. repoint (repoint (b .β) k 0) k u r ≡ repoint (b .β) k u r) (repoint-at (repoint (b .β) k 0) k u ∙ sym (repoint-at (b .β) k u))
               (λ r l d. repoint-other (repoint (b .β) k 0) k u r d ∙ repoint-other (b .β) k 0 r d ∙ sym (repoint-other (b .β) k u r d))
@@ -197,8 +216,8 @@ module _ (n m : ℕ) (Sheet : ℕ → Row) (kept : ℕ → Bool) (kp : KeptPlace
   pub open-step : (w : List ℕ) (ans : RowCase) → RowDone q k store ws w ans → RowOutcome n m Sheet kept q k w ans
   open-step w Redundant (s, e) =
       let f = after (s .begun) w (s .loaded) (s .reduced) in
-      record { R = b .R; β = b .β; S = b .S; rows = f .0; built = skip-built n m Sheet kept kp q lq k (b .R) (b .β) (b .S) (b .built) (none-coefs w (f .1) (s .empty)) (sym (f .1 .parity) ∙ e) }
+      record { R = b .R; β = b .β; S = b .S; rows = f .0; homes = homes-chain k lk k (s .begun) w (s .reduced) (homes-loaded q k lk store ws (s .begun) (s .loaded) (b .homes)); built = skip-built n m Sheet kept kp q lq k (b .R) (b .β) (b .S) (b .built) (none-coefs w (f .1) (s .empty)) (sym (f .1 .parity) ∙ e) }
   open-step w Contradictory (s, e) =
       let f = after (s .begun) w (s .loaded) (s .reduced) in
       (others n m Sheet kept kp q lq k (b .R) (b .β) (b .S) (b .built), fails n m Sheet kept kp q lq k (b .R) (b .β) (b .S) (b .built) (none-coefs w (f .1) (s .empty)) (sym (f .1 .parity) ∙ e), f .1 .from)
-  open-step w Kept t = grown w (t .begun) (t .left) (t .u) (t .loaded) (t .reduced) (t .lowest) (t .some) (t .long) (t .moved)
+  open-step w Kept t = grown w (t .begun) (t .left) (t .housed) (t .u) (t .loaded) (t .reduced) (t .lowest) (t .some) (t .long) (t .home) (t .moved)

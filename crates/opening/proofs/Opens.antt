@@ -26,7 +26,7 @@ use Rattle.settle.proofs.Restarts.{restart-made}
 use Rattle.opening.specs.declared.RowCase.the-variants.{Redundant, Contradictory, Kept}
 use Rattle.opening.specs.Opened.{Basics, Spent, Entered, RowDone, Opens, start, pass, grow, AllIn, Stopped}
 use Rattle.words.specs.Store.{StoreRead}
-use Rattle.opening.proofs.Basics.{basics-loaded, basics-chain, basics-exchanged}
+use Rattle.opening.proofs.Basics.{basics-loaded, basics-chain, basics-homed, basics-exchanged}
 use Rattle.opening.proofs.Lifts.{open-step}
 
 pub opens-next : (store ws : List ℕ) (q k : ℕ) (v w : List ℕ) (k′ : ℕ) → Opens store ws q k v → length v ≡ length ws
@@ -40,7 +40,9 @@ row-passed q k store v w s b = basics-chain k k (s .begun) w (s .reduced) (basic
 row-grown : (q k : ℕ) (store v w : List ℕ) → size ≤ length v → k < maxRows → Entered q k store v w → Basics k v → Basics (suc k) w
 row-grown q k store v w big l t b =
     let g = t .long in
-    basics-exchanged k (t .u) (t .left) w (omega arith) l (t .some) (t .lowest .upto) (t .moved) (basics-chain k k (t .begun) (t .left) (t .reduced) (basics-loaded q k store v (t .begun) (t .loaded) b))
+    let h = t .home .len in
+    basics-exchanged k (t .u) (t .housed) w (omega arith) l (t .some) (t .lowest .upto) (t .moved)
+    (basics-homed k (t .u) k (t .left) (t .housed) (omega arith) (t .home) (basics-chain k k (t .begun) (t .left) (t .reduced) (basics-loaded q k store v (t .begun) (t .loaded) b)))
 
 pub opens-basics : (store ws : List ℕ) → size ≤ length ws → (q k : ℕ) (w : List ℕ) → k ≤ maxRows → Opens store ws q k w → Basics k w
 opens-basics store ws big q k w l start = λ r h. absurd (not-suc-le-zero h)
@@ -58,6 +60,7 @@ module _ (n m : ℕ) (Sheet : ℕ → Row) (kept : ℕ → Bool) (kp : KeptPlace
         β = λ r. 0;
         S = λ r j. false;
         rows = record { coefs = λ r h. absurd (not-suc-le-zero h); parity = λ r h. absurd (not-suc-le-zero h); basic = λ r h. absurd (not-suc-le-zero h); from = λ r h. absurd (not-suc-le-zero h); clean = λ r h. absurd (not-suc-le-zero h) };
+        homes = λ r h. absurd (not-suc-le-zero h);
         built = built-none n m Sheet kept _ _ _;
       }
   opens-built q k w l (pass p k₁ v w₁ o len r) =
@@ -75,7 +78,7 @@ module _ (n m : ℕ) (Sheet : ℕ → Row) (kept : ℕ → Bool) (kp : KeptPlace
       let f = a .few in
       let g = a .long in
       restart-made n m Sheet kept 0 (λ j. 0) (λ j. false) k (b .R) (b .β) (b .S) (a .middle) w ln (omega arith) (omega arith) (len ∙ sym (a .long)) (b .built) (taken-none n _ k (b .β)) (b .rows)
-      (record { var = λ j h. absurd (not-suc-le-zero h); val = λ j h. absurd (not-suc-le-zero h) }) (a .settled)
+      (record { var = λ j h. absurd (not-suc-le-zero h); val = λ j h. absurd (not-suc-le-zero h) }) (b .homes) (a .settled)
 
   pub open-fails : (q k : ℕ) (w : List ℕ) → Stopped m store ws q k w → (s : ℕ → Bool) × Fails n m Sheet kept q s × ((j : ℕ) → j < maxRows → bitAt w (fromAt k) j ≡ same q j ⊕ s j)
   open-fails q k w a =

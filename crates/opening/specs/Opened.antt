@@ -3,7 +3,7 @@
 --   Basics k ws                  each row below k has a basic variable, one of 1 .. maxVars
 --   Reduced k r ws w             row r has been added into row k, if that has its basic variable
 --   LowestAt ws k x              x is the lowest variable of row k, or 0 where it has none
---   Spent, Entered               row q stands as row k and no variable is left in it; one was left, and is now basic there
+--   Spent, Entered               row q stands as row k and no variable is left in it; one was left, row k is its home, and it is now basic there
 --   RowDone q k store ws w x     what row q comes to, with k rows kept so far
 --   RowOutcome                   the same for rows that say what the first q rows of the sheet say
 --   Opens store ws q k w         the first q rows have gone in, and k of them are kept
@@ -20,7 +20,7 @@ use Rattle.gf2.specs.Rows.{Row}
 use Rattle.linear.specs.State.{Fails}
 use Rattle.words.specs.Words.{bitAt, ownWord}
 use Rattle.tableau.specs.Layout.{coefWords, fromWords, maxVars, maxRows, rowSize, rowAt, fromAt, lastAt}
-use Rattle.tableau.specs.Buffer.{basicAt, parityAt, Added, Chain}
+use Rattle.tableau.specs.Buffer.{basicAt, parityAt, Added, Homed, Chain}
 use Rattle.tableau.specs.View.{BuiltAt}
 use Rattle.settle.specs.Values.{Restarted}
 use Rattle.exchange.specs.Steps.{Exchanged}
@@ -64,7 +64,9 @@ pub record Entered (q k : ℕ) (store ws w : List ℕ) : Type 0 where
   pub lowest : LowestAt left k u
   pub some : 0 < u
   pub long : length left ≡ length ws
-  pub moved : Exchanged (k + 1) k u left w
+  pub housed : List ℕ
+  pub home : Homed u k left housed
+  pub moved : Exchanged (k + 1) k u housed w
 
 abbrev pub RowDone : (q k : ℕ) → List ℕ → List ℕ → List ℕ → RowCase → Type 0
 RowDone q k store ws w Redundant = Spent q k store ws w × (parityAt w k ≡ false)

@@ -7,6 +7,7 @@ use tableau::LAST;
 use tableau::ROW;
 use tableau::add_row;
 use tableau::load;
+use tableau::set_home;
 use tableau::store;
 use tableau::words_at;
 use words::bit;
@@ -155,6 +156,7 @@ fn open_row(work: &mut [u64], rows: &[u64], q: usize, k: usize) -> RowCase
     reduce(work, k);
     let u = lowest(load(work, k));
     if u != 0 {
+        set_home(work, u, k);
         enter(work, k, u);
         return RowCase::Kept;
     }

@@ -25,8 +25,8 @@ use Rattle.judge.specs.Checks.{explainChecks}
 use Rattle.judge.proofs.Judged.{explain-judged}
 use Rattle.words.specs.Words.{bitAt}
 use Rattle.tableau.specs.Layout.{rowAt, fromAt, lastAt, knownAt, truthAt, size}
-use Rattle.tableau.specs.Buffer.{basicAt}
-use Rattle.tableau.specs.View.{vals}
+use Rattle.tableau.specs.Buffer.{basicAt, homeAt}
+use Rattle.tableau.specs.View.{vals, Homes}
 use Rattle.tableau.proofs.Reading.{bit-of}
 use Rattle.exchange.specs.Steps.{Found}
 use Rattle.exchange.proofs.Finds.{found-none}
@@ -34,7 +34,7 @@ use Rattle.exchange.proofs.Steps.{known-bit, truth-bit}
 use Rattle.lists.specs.Listing.{numbers, isOther, ListPut}
 use Rattle.parity.specs.declared.Explaining.the-variants.{ExplainRefused, Explained}
 use Rattle.parity.specs.Promises.{Stands, ExplainPromise}
-use Rattle.parity.proofs.Part.{front-bit}
+use Rattle.parity.proofs.Part.{front-bit, front-home}
 use Rattle.lists.proofs.Picking.{listed-take}
 use Rattle.parity.proofs.Listing.{listed-used}
 use Rattle.parity.proofs.Numbering.{numbers-chosen}
@@ -87,13 +87,13 @@ module _ (h : Header) (work clause rows : List ℕ) (v : ℕ) where
       basic-is : (r : ℕ) → r < h .kept → basicAt work r ≡ s .made .β r
       basic-is r l = let a = s .made .few in sym (front-basic r (omega arith)) ∙ s .made .rows .basic r l
 
-      coef-is : (r : ℕ) → r < h .kept → bitAt work (rowAt r) (v - 1) ≡ s .made .R r v
-      coef-is r l =
-          let a = mine .low in
-          let b = mine .high in
-          let c = s .fit .vars in
-          let d = s .made .few in
-          sym (front-bit work room (rowAt r) (omega arith) (v - 1) (omega arith)) ∙ s .made .rows .coefs r l (v - 1) (omega arith) ∙ ap (s .made .R r) (bit-of v (mine .low))
+      homes-are : Homes (h .kept) work
+      homes-are r l =
+          let a = s .made .few in
+          let b = s .made .rows .basic r l in
+          let c = s .made .made .built .tableau .var r l .high in
+          let d = s .made .vars in
+          ap (homeAt work) (sym (front-basic r (omega arith))) ∙ sym (front-home work (basicAt front r) (omega arith)) ∙ s .made .homes r l
 
     promise-10 : ((p : Position) → Stands h work p → Unexplained p v) → ExplainPromise h work clause rows v (ExplainRefused 10) clause rows
     promise-10 f = record { refused = λ c e. absurd (not-refused c e); leaves = λ z. (refl, refl, refl); right = λ z p s. f p s }
@@ -105,7 +105,7 @@ module _ (h : Header) (work clause rows : List ℕ) (v : ℕ) where
     pub promise-assumed : bitAt work knownAt (v - 1) ≡ true → Found work (h .kept) v (h .kept) → ExplainPromise h work clause rows v (ExplainRefused 10) clause rows
     promise-assumed e f = promise-10 (λ p s. subst (λ (q : Position). Unexplained q v) (sym (s .here))
         (made-assumed (h .n) (h .m) (s .Sheet) (s .kept) (h .depth) (s .var) (s .val) (h .kept) (s .made .R) (s .made .β) (s .made .S) (s .made .known) (s .made .truth) (s .made .made) (s .is-kept) v mine
-        (found-none (h .n) (h .kept) v work (s .made .R) (s .made .β) (s .made .made .built .tableau) (basic-is p s) (coef-is p s) f) (sym (known-is p s) ∙ e)))
+        (found-none (h .kept) v work (s .made .β) (homes-are p s) (basic-is p s) f) (sym (known-is p s) ∙ e)))
 
     pub promise-explained : (r : ℕ) → r < h .kept → Found work (h .kept) v r → bitAt work knownAt (v - 1) ≡ true → (clause′ rows′ : List ℕ) (x y : ℕ)
         → ListPut (h .n) 0 (code v (bitAt work truthAt (v - 1)) ∷ scanned (h .n) (isOther work r v) (λ u. not (vals work truthAt u))) clause clause′ x
@@ -124,7 +124,7 @@ module _ (h : Header) (work clause rows : List ℕ) (v : ℕ) where
         fits-rows = explain-judged h (length work) (length clause) (length rows) v j .3
 
         basic : (p : Position) (s : Stands h work p) → s .made .β r ≡ v
-        basic p s = sym (basic-is p s r l) ∙ f .here l
+        basic p s = sym (basic-is p s r l) ∙ f .here l .1
 
         known : (p : Position) (s : Stands h work p) → s .made .known (s .made .β r) ≡ true
         known p s = ap (s .made .known) (basic p s) ∙ sym (known-is p s) ∙ e

@@ -19,9 +19,10 @@ use Rattle.linear.proofs.Exchange.{at-or-not}
 use Rattle.linear.proofs.Settling.{settle-made}
 use Rattle.words.specs.Words.{bitAt}
 use Rattle.words.proofs.Bits.{bit-same}
-use Rattle.tableau.specs.Layout.{maxVars, knownAt, truthAt, recordAt}
+use Rattle.tableau.specs.Layout.{maxVars, lastAt, knownAt, truthAt, recordAt}
+use Rattle.tableau.specs.Buffer.{homeAt}
 use Rattle.tableau.specs.View.{RowsRead, ValuesRead, LitsRead, vals, MadeAt}
-use Rattle.tableau.proofs.Reading.{bit-of, rows-stay, entry-stay, lits-stay}
+use Rattle.tableau.proofs.Reading.{bit-of, rows-stay, entry-stay, home-stay, homes-same, lits-stay}
 use Rattle.settle.specs.Values.{Followed}
 use Rattle.settle.proofs.Putting.{Within, or-right, put-within}
 use Rattle.settle.proofs.Settles.{follow-finished, follow-rest, follow-within}
@@ -29,7 +30,7 @@ use Rattle.settle.proofs.Settles.{follow-finished, follow-rest, follow-
 module _ (n m : ℕ) (Sheet : ℕ → Row) (kept : ℕ → Bool) (d : ℕ) (x : ℕ → ℕ) (y : ℕ → Bool) (k : ℕ) (ws : List ℕ) (a : MadeAt ws n m Sheet kept d x y k)
     (v : ℕ) (b : Bool) (mv : Var n v) (nb : NonBasic k (a .β) v) (un : a .known v ≡ false)
     (x′ : ℕ → ℕ) (y′ : ℕ → Bool) (x-old : (j : ℕ) → j < d → x′ j ≡ x j) (y-old : (j : ℕ) → j < d → y′ j ≡ y j) (x-new : x′ d ≡ v) (y-new : y′ d ≡ b) (t : Taken n (suc d) x′ k (a .β))
-    (u w : List ℕ) (len : length w ≡ length ws) (front : (i : ℕ) → i < recordAt → getD u i 0 ≡ getD ws i 0) (lr : LitsRead (suc d) u x′ y′) (f : Followed k (v - 1) b u w) where
+    (u w : List ℕ) (len : length w ≡ length ws) (front : (i : ℕ) → i < recordAt → getD u i 0 ≡ getD ws i 0) (hs : (z : ℕ) → homeAt u z ≡ homeAt ws z) (lr : LitsRead (suc d) u x′ y′) (f : Followed k (v - 1) b u w) where
   mine : suc (v - 1) ≡ v
   mine = bit-of v (mv .low)
 
@@ -122,6 +123,9 @@ module _ (n m : ℕ) (Sheet : ℕ → Row) (kept : ℕ → Bool) (d : ℕ) (x : 
   rest : (i : ℕ) → (i < knownAt) ⊎ (recordAt ≤ i) → getD w i 0 ≡ getD (f .begun) i 0
   rest = follow-rest n k (f .begun) (a .R) (a .β) (a .S) known₁ truth₁ (a .vars) (a .few) (a .made .built .tableau) rows₁ values₁ had (v - 1) small done w (f .settled)
 
+  last : (r : ℕ) → r < k → getD w (lastAt r) 0 ≡ getD ws (lastAt r) 0
+  last r l = let c = a .few in rest (lastAt r) (inl (omega arith)) ∙ rest₁ (lastAt r) (omega arith)
+
   pub follow-made : MadeAt w n m Sheet kept (suc d) x′ y′ k
   follow-made =
       record {
@@ -140,6 +144,7 @@ module _ (n m : ℕ) (Sheet : ℕ → Row) (kept : ℕ → Bool) (d : ℕ) (x : 
           within = follow-within n k (f .begun) (a .R) (a .β) (a .S) known₁ truth₁ (a .vars) (a .few) (a .made .built .tableau) rows₁ values₁ had (v - 1) small done w (f .settled);
         };
         lits = lits-stay (suc d) u w x′ y′ (λ j l. entry-stay u w (λ i h. rest i (inr h) ∙ f .given .rest i (inr h)) j) lr;
+        homes = homes-same k ws w (λ r l. ap (λ (z : ℕ). z / 2) (last r l)) (λ z. home-stay u w (λ i h. rest i (inr h) ∙ f .given .rest i (inr h)) z ∙ hs z) (a .homes);
         made = settle-made n m Sheet kept k (a .R) (a .β) (a .S) (a .made .built) (suc d) x′ y′ t known₁ truth₁ _ _ started
             (follow-finished n k (f .begun) (a .R) (a .β) (a .S) known₁ truth₁ (a .vars) (a .few) (a .made .built .tableau) rows₁ values₁ had (v - 1) small done w (f .settled));
       }

@@ -1,6 +1,5 @@
 -- A ROW ADDED INTO ANOTHER: its coefficients and its provenance are loaded, summed and stored, and its last word is made anew.
 --   add-done       what add_row has done
---   record-done    what set_entry has done
 -- Assumes nothing.
 use mathlib.Core.Path.{_≡_, sym, ap, ap₂, _∙_}
 use mathlib.Core.List.{List}
@@ -14,8 +13,8 @@ use lib.Seq.{getD-set-same, getD-set-other}
 use lib.Bits.{bitXor}
 use Rattle.words.specs.Words.{xorWords}
 use Rattle.words.proofs.Bits.{word-xor}
-use Rattle.tableau.specs.Layout.{maxRows, maxTaken, rowSize, rowAt, fromAt, lastAt, recordAt, size}
-use Rattle.tableau.specs.Buffer.{Run, Reads, Added, entryAt, Recorded}
+use Rattle.tableau.specs.Layout.{maxRows, rowSize, rowAt, fromAt, lastAt, size}
+use Rattle.tableau.specs.Buffer.{Run, Reads, Added}
 
 -- the sum of two runs of words, as it was loaded and is stored
 sum-word : (k a b : ℕ) (ws x y : List ℕ) → Reads k ws a x → Reads k ws b y → (j : ℕ) → j < k → getD (xorWords x y) (0 + j) 0 ≡ bitXor (getD ws (a + j) 0) (getD ws (b + j) 0)
@@ -57,13 +56,3 @@ module _ (f t : ℕ) (ws x y p q s r u v : List ℕ) (big : size ≤ length ws) 
         last = getD-set-same v (lastAt t) last-word 0 (omega (arith, a .len, b .len));
         rest = rest;
       }
-
-pub record-done : (ws : List ℕ) (j code : ℕ) → size ≤ length ws → j < maxTaken → Recorded j code ws (set ws (recordAt + j) code)
-unfolding entryAt
-record-done ws j code big l =
-    record {
-      len = length-set ws (recordAt + j) code;
-      here = getD-set-same ws (recordAt + j) code 0 (omega arith);
-      others = λ i d. getD-set-other ws (recordAt + j) (recordAt + i) code 0 (λ (z : recordAt + i ≡ recordAt + j). d (omega arith));
-      rest = λ i h. getD-set-other ws (recordAt + j) i code 0 (λ (z : i ≡ recordAt + j). absurd (omega arith));
-    }

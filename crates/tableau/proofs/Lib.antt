@@ -1,4 +1,5 @@
 pub mod Runs
 pub mod Adding
+pub mod Records
 pub mod Reading
 pub mod Columns

@@ -2,12 +2,15 @@
 --   bit-of                    a variable by the number of its bit
 --   rows-stay, rows-below     the rows of a buffer whose words, or whose words before row k, stay
 --   entry-stay, lits-stay     the entries of the record where its words stay
+--   home-stay                 the homes where those words stay; homes-same, homes-stay: they are those of the basic variables still
+--   homed-other               a row is the home of its basic variable still, where another variable's home is set
 --   prov-bit                  provenance as bits behind the coefficients
 --   digit-sum, basic-kept     the parity of a sum, and its basic variable
 -- Assumes nothing.
 use mathlib.Core.Path.{_≡_, refl, ap, ap₂, _∙_}
 use mathlib.Core.List.{List}
 use mathlib.Core.Bool.{Bool}
+use mathlib.Core.Logic.{_⊎_, inl, inr, _≢_}
 use Prim.Native.Nat.{ℕ, zero, suc, _+_, _*_, _-_, _/_, _%_, _<_, _≤_}
 use native.Mathlib.Omega.{arith}
 use lib.ListN.{getD}
@@ -16,9 +19,9 @@ use Rattle.gf2.specs.Rows.{Row}
 use Rattle.gf2.specs.Answers.{variable, value}
 use Rattle.words.specs.Words.{bitOf, digit, bitAt}
 use Rattle.words.proofs.Bits.{bit-same}
-use Rattle.tableau.specs.Layout.{maxVars, maxRows, rowAt, fromAt, lastAt, knownAt, recordAt}
-use Rattle.tableau.specs.Buffer.{entryAt}
-use Rattle.tableau.specs.View.{RowsRead, LitsRead}
+use Rattle.tableau.specs.Layout.{maxVars, maxRows, rowAt, fromAt, lastAt, knownAt, recordAt, homeStep}
+use Rattle.tableau.specs.Buffer.{basicAt, entryAt, homeAt, Homed}
+use Rattle.tableau.specs.View.{RowsRead, LitsRead, Homes}
 
 pub bit-of : (v : ℕ) → 0 < v → suc (v - 1) ≡ v
 bit-of v h = omega arith
@@ -38,7 +41,20 @@ rows-stay n k ws w R β S lk h = rows-below n k ws w R β S (λ i l. h i (omega 
 
 pub entry-stay : (ws w : List ℕ) → ((i : ℕ) → recordAt ≤ i → getD w i 0 ≡ getD ws i 0) → (j : ℕ) → entryAt w j ≡ entryAt ws j
 unfolding entryAt
-entry-stay ws w h j = h (recordAt + j) (omega arith)
+entry-stay ws w h j = ap (λ (x : ℕ). x % homeStep) (h (recordAt + j) (omega arith))
+
+pub home-stay : (ws w : List ℕ) → ((i : ℕ) → recordAt ≤ i → getD w i 0 ≡ getD ws i 0) → (v : ℕ) → homeAt w v ≡ homeAt ws v
+unfolding homeAt
+home-stay ws w h v = ap (λ (x : ℕ). x / homeStep) (h (recordAt + (v - 1)) (omega arith))
+
+pub homes-same : (k : ℕ) (ws w : List ℕ) → ((r : ℕ) → r < k → basicAt w r ≡ basicAt ws r) → ((v : ℕ) → homeAt w v ≡ homeAt ws v) → Homes k ws → Homes k w
+homes-same k ws w b h s r l = ap (homeAt w) (b r l) ∙ h (basicAt ws r) ∙ s r l
+
+pub homes-stay : (k : ℕ) (ws w : List ℕ) → ((i : ℕ) → (i < rowAt k) ⊎ (recordAt ≤ i) → getD w i 0 ≡ getD ws i 0) → Homes k ws → Homes k w
+homes-stay k ws w h = homes-same k ws w (λ r l. ap (λ (x : ℕ). x / 2) (h (lastAt r) (inl (omega arith)))) (home-stay ws w (λ i l. h i (inr l)))
+
+pub homed-other : (u p : ℕ) (ws w : List ℕ) → Homed u p ws w → (r : ℕ) → r < maxRows → 0 < basicAt ws r → basicAt ws r ≢ u → homeAt ws (basicAt ws r) ≡ r → homeAt w (basicAt w r) ≡ r
+homed-other u p ws w h r l lo d e = ap (λ (x : ℕ). homeAt w (x / 2)) (h .rest (lastAt r) (omega arith)) ∙ h .others (basicAt ws r) lo d ∙ e
 
 pub lits-stay : (d : ℕ) (ws w : List ℕ) (x : ℕ → ℕ) (y : ℕ → Bool) → ((j : ℕ) → j < d → entryAt w j ≡ entryAt ws j) → LitsRead d ws x y → LitsRead d w x y
 lits-stay d ws w x y h lr = record { var = λ j l. ap variable (h j l) ∙ lr .var j l; val = λ j l. ap value (h j l) ∙ lr .val j l }

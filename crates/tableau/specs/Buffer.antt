@@ -3,6 +3,7 @@
 --   Reads k ws at r         r has the k words of ws from place at
 --   basicAt, parityAt       the basic variable and the parity of a row
 --   entryAt                 an entry of the record; Recorded: one has been set
+--   homeAt ws v             the home of variable v, the row in which it last became basic; Homed: one has been set
 --   Added f t ws w          row f has been added into row t, which keeps its basic variable
 --   Column ws q e p x       which rows from q to below e have variable p + 1: a digit of x each, the top one for row q
 --   Chain Step k ws w       the steps 0 .. k - 1 one after another; Span Step a j ws w: the j steps from a on
@@ -15,7 +16,7 @@ use Prim.Native.Nat.{ℕ, zero, suc, _+_, _*_, _-_, _/_, _%_, _<_, _≤_}
 use lib.ListN.{length, getD}
 use lib.Bits.{bitXor}
 use Rattle.words.specs.Words.{digit, bitOf, bitAt}
-use Rattle.tableau.specs.Layout.{coefWords, fromWords, rowSize, rowAt, lastAt, recordAt}
+use Rattle.tableau.specs.Layout.{coefWords, fromWords, rowSize, rowAt, lastAt, recordAt, homeStep}
 
 pub record Run (off k : ℕ) (want : ℕ → ℕ) (ws w : List ℕ) : Type 0 where
   pub len : length w ≡ length ws
@@ -32,12 +33,23 @@ abbrev pub parityAt : List ℕ → ℕ → Bool
 parityAt ws r = digit (getD ws (lastAt r) 0 % 2)
 
 unfoldable pub entryAt : List ℕ → ℕ → ℕ
-entryAt ws j = getD ws (recordAt + j) 0
+entryAt ws j = getD ws (recordAt + j) 0 % homeStep
+
+unfoldable pub homeAt : List ℕ → ℕ → ℕ
+homeAt ws v = getD ws (recordAt + (v - 1)) 0 / homeStep
 
 pub record Recorded (j code : ℕ) (ws w : List ℕ) : Type 0 where
   pub len : length w ≡ length ws
   pub here : entryAt w j ≡ code
   pub others : (i : ℕ) → i ≢ j → entryAt w i ≡ entryAt ws i
+  pub homes : (v : ℕ) → homeAt w v ≡ homeAt ws v
+  pub rest : (i : ℕ) → i < recordAt → getD w i 0 ≡ getD ws i 0
+
+pub record Homed (v r : ℕ) (ws w : List ℕ) : Type 0 where
+  pub len : length w ≡ length ws
+  pub here : homeAt w v ≡ r
+  pub others : (u : ℕ) → 0 < u → u ≢ v → homeAt w u ≡ homeAt ws u
+  pub entries : (j : ℕ) → entryAt w j ≡ entryAt ws j
   pub rest : (i : ℕ) → i < recordAt → getD w i 0 ≡ getD ws i 0
 
 pub record Added (f t : ℕ) (ws w : List ℕ) : Type 0 where

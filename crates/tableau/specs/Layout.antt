@@ -10,7 +10,8 @@
 --     lastAt r                2 × its basic variable + its parity
 --   knownAt  .. + coefWords the variables that have a value
 --   truthAt  .. + coefWords those of them that are true
---   recordAt .. + maxTaken  the codes of the taken literals, in the order in which they were taken
+--   recordAt .. + maxTaken  two lists in the same words. Below homeStep: the codes of the taken literals, in the order in which they were taken.
+--                           Above: the home of each variable, the row in which it last became basic
 --   size                    the words in use
 -- Assumes nothing.
 use Prim.Native.Nat.{ℕ, _+_, _*_}
@@ -50,6 +51,9 @@ truthAt = knownAt + coefWords
 
 abbrev pub recordAt : ℕ
 recordAt = truthAt + coefWords
+
+abbrev pub homeStep : ℕ
+homeStep = 65536
 
 abbrev pub size : ℕ
 size = 4096

@@ -4,8 +4,8 @@ use words::sum_from;
 ghost use mathlib.Core.Path.{_≡_};
 ghost use Prim.Native.Nat.{_+_, _*_, _-_, _<_, _≤_, min};
 ghost use lib.ListN.{length, getD};
-ghost use Rattle.tableau.specs.Layout.{coefWords, fromWords, maxVars, maxRows, maxTaken, rowAt, fromAt, knownAt, truthAt, size};
-ghost use Rattle.tableau.specs.Buffer.{Run, Reads, Added, entryAt, Recorded, Column};
+ghost use Rattle.tableau.specs.Layout.{coefWords, fromWords, maxVars, maxRows, maxTaken, rowAt, fromAt, knownAt, truthAt, homeStep, size};
+ghost use Rattle.tableau.specs.Buffer.{Run, Reads, Added, entryAt, homeAt, Recorded, Homed, Column};
 
 // Past the code of the last literal.
 pub const CODES: u64 = 1026;
@@ -27,6 +27,8 @@ pub const KNOWN: usize = ROW * MAX_ROWS;
 pub const TRUTH: usize = KNOWN + COEF_WORDS;
 // Where the record of taken literals starts.
 const RECORD: usize = TRUTH + COEF_WORDS;
+// In a word of the record, a literal's code stands below this, and a variable's home is counted by it.
+const HOME: u64 = 65536;
 // The words in use.
 pub const SIZE: usize = 4096;
 
@@ -100,20 +102,40 @@ pub fn add_row(work: &mut [u64], from: usize, to: usize)
     work[ROW * to + LAST] = x / 2 * 2 + (x % 2 + y % 2) % 2;
 }
 
-// Entry j of the record. This and `set_entry` alone know how the record lies in its words.
+// Entry j of the record. This and the next three alone know how the record and the homes lie in their words.
 pub fn entry(work: &[u64], j: usize) -> u64
     requires { ⌜ (size ≤ length (now work)) × (j < maxTaken) ⌝ }
     ensures { λ x. ⌜ x ≡ entryAt (now (work .entry)) j ⌝ }
 {
-    work[RECORD + j]
+    work[RECORD + j] % HOME
 }
 
 // Entry j of the record becomes a literal's code.
 pub fn set_entry(work: &mut [u64], j: usize, code: u64)
-    requires { ⌜ (size ≤ length (now work)) × (j < maxTaken) ⌝ }
+    requires { ⌜ (size ≤ length (now work)) × (j < maxTaken) × (code < homeStep) ⌝ }
     ensures { λ _. ⌜ Recorded j code (now (work .entry)) (now (work .exit)) ⌝ }
 {
-    work[RECORD + j] = code;
+    let at = RECORD + j;
+    let x = work[at];
+    work[at] = x / HOME * HOME + code;
+}
+
+// The home of variable v, the row in which it last became basic.
+pub fn home(work: &[u64], v: usize) -> u64
+    requires { ⌜ (size ≤ length (now work)) × (0 < v) × (v ≤ maxVars) ⌝ }
+    ensures { λ x. ⌜ x ≡ homeAt (now (work .entry)) v ⌝ }
+{
+    work[RECORD + (v - 1)] / HOME
+}
+
+// Row r becomes the home of variable v.
+pub fn set_home(work: &mut [u64], v: usize, r: usize)
+    requires { ⌜ (size ≤ length (now work)) × (0 < v) × (v ≤ maxVars) × (r < maxRows) ⌝ }
+    ensures { λ _. ⌜ Homed v r (now (work .entry)) (now (work .exit)) ⌝ }
+{
+    let at = RECORD + (v - 1);
+    let x = work[at];
+    work[at] = x % HOME + HOME * (r as u64);
 }
 
 // Which variables have a value.

@@ -25,6 +25,9 @@ load-requires c κs = search needs
 lowest-requires : tie.Need-lowest-requires
 lowest-requires c κs = search needs
 
+set-home-requires : tie.Need-set-home-requires
+set-home-requires c κs = search needs
+
 enter-requires : tie.Need-enter-requires
 enter-requires c κs = search needs
 
@@ -32,18 +35,21 @@ same-length : tie.Need-same-length
 same-length c = search needs
 
 returns : tie.Need-returns
-returns c = let l = c .before .before .before .before .before .before .before .before .before .before .before .before .before .before .load-row in
-    let d = c .before .before .before .before .before .before .before .before .before .before .reduce in
-    let u = c .before .before .before .before .before .lowest in
+returns c = let l = c .before .before .before .before .before .before .before .before .before .before .before .before .before .before .before .before .before .before .load-row in
+    let d = c .before .before .before .before .before .before .before .before .before .before .before .before .before .before .reduce in
+    let u = c .before .before .before .before .before .before .before .before .before .lowest in
+    let h = c .before .before .before .before .before .before .set-home in
     record {
       begun = l .last .0;
       left = d .last .0;
       u = u .result;
       loaded = l .ensures;
       reduced = d .ensures;
-      lowest = lowest-read _ _ _ _ (c .before .before .before .before .before .before .load .ensures) (u .ensures);
-      some = omega (arith, c .before .before .before .before .if1 .taken);
+      lowest = lowest-read _ _ _ _ (c .before .before .before .before .before .before .before .before .before .before .load .ensures) (u .ensures);
+      some = omega (arith, c .before .before .before .before .before .before .before .before .if1 .taken);
       long = d .kept .0 ∙ l .kept .0;
+      housed = h .last .0;
+      home = h .ensures;
       moved = c .before .before .enter .ensures;
     }
 
@@ -82,6 +88,7 @@ open-row-spec =
     reduce-requires
     load-requires
     lowest-requires
+    set-home-requires
     enter-requires
     same-length
     returns

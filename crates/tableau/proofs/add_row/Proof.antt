@@ -1,14 +1,11 @@
 -- `tableau::add_row` meets its contract.
 -- Assumes nothing.
-use Rattle.tableau.proofs.Runs.{reads-at}
-use Rattle.tableau.specs.Layout.{rowAt, fromAt}
--- `tableau::add_row` meets its contract.
--- Assumes nothing.
 use mathlib.Core.Path.{_∙_}
 use native.Mathlib.Omega.{arith}
 use lib.ListN.{length-set}
 use borrow.Author.Needs.{needs}
-use Rattle.tableau.specs.Layout.{lastAt}
+use Rattle.tableau.specs.Layout.{rowAt, fromAt, lastAt}
+use Rattle.tableau.proofs.Runs.{reads-at}
 use Rattle.tableau.proofs.Adding.{add-done}
 use Rattle.tableau.proofs.add_row.Statement.{statement}
 use Rattle.tableau.proofs.add_row.Tie as tie
