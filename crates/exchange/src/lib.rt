@@ -14,7 +14,6 @@ use tableau::home;
 use tableau::set_entry;
 use tableau::set_home;
 use words::bit;
-use words::own;
 use words::without;
 ghost use mathlib.Core.Bool.{true};
 ghost use mathlib.Core.Path.{_≡_};
@@ -34,16 +33,16 @@ fn partner(work: &[u64], r: usize, v: usize) -> usize
     let mut found = 0;
     let mut w = 0;
     'scan: while w < COEF_WORDS {
-        let y = without(work[a + w], work[KNOWN + w] | own(v, w));
-        if y != 0 {
-            let mut b = 0;
-            while b < 64 {
-                if (y >> (63 - b)) % 2 == 1 {
-                    found = w * 64 + b + 1;
-                    break 'scan;
-                }
-                b += 1;
+        // The variables of this word that have no value, the lowest at the top.
+        let mut rest = without(work[a + w], work[KNOWN + w]);
+        while rest != 0 {
+            let i = u64::leading_zeros(rest) as usize;
+            let u = w * 64 + i + 1;
+            if u != v {
+                found = u;
+                break 'scan;
             }
+            rest = rest ^ (1 << (63 - i));
         }
         w += 1;
     }

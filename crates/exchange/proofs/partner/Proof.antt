@@ -1,23 +1,24 @@
 -- `exchange::partner` meets its contract.
 -- Assumes nothing.
 use mathlib.Core.Bool.{false}
-use mathlib.Core.Logic.{_≢_, ⊎-elim}
-use mathlib.Core.Path.{_≡_, refl, _∙_}
+use mathlib.Core.Logic.{_≢_}
+use mathlib.Core.Path.{_≡_, refl}
 use Prim.Native.Nat.{ℕ, _+_, _*_, _≤_, _<_, _-_}
 use native.Mathlib.Omega.{arith}
-use borrow.Author.Count.{below-more}
+use lib.Count.{leadingZeros}
 use borrow.Author.Needs.{needs}
 use denote.Ref.{now}
+use Rattle.words.proofs.Ones.{zeros-lt, rest-less}
 use Rattle.settle.specs.Values.{lacks}
-use Rattle.exchange.proofs.Partners.{other-word, other-made, other-yes, other-no, other-none}
+use Rattle.exchange.proofs.Partners.{lack-made, Scan, scan-start, scan-end, scan-top, scan-under, scan-next}
 use Rattle.exchange.proofs.partner.Statement.{statement}
 use Rattle.exchange.proofs.partner.Tie as tie
 
 abbrev Inv-loop : tie.InvT-loop
-Inv-loop work r v a found₀ w y b₀ found b = (b ≤ 64) × (found ≡ 0) × ((i : ℕ) → i < w * 64 + b → i ≢ v - 1 → lacks work r i ≡ false)
+Inv-loop work r v a found₀ w rest₀ found rest = (found ≡ 0) × Scan work r (v - 1) w rest
 
 abbrev μ-loop : tie.MeasureT-loop
-μ-loop work r v a found₀ w y b₀ found b = 64 - b
+μ-loop work r v a found₀ w rest₀ found rest = rest
 
 abbrev Inv-scan : tie.InvT-scan
 Inv-scan work r v a found₀ w₀ found w = (w ≤ 8) × (found ≡ 0) × ((i : ℕ) → i < w * 64 → i ≢ v - 1 → lacks work r i ≡ false)
@@ -25,13 +26,12 @@ Inv-scan work r v a found₀ w₀ found w = (w ≤ 8) × (found ≡ 0) × ((i : 
 abbrev μ-scan : tie.MeasureT-scan
 μ-scan work r v a found₀ w₀ found w = 8 - w
 
--- the word that the code makes
-made : (c : tie.After-without Inv-loop μ-loop Inv-scan μ-scan)
-    → let a = c .before .before .before .before .before .before .before .args in
-    c .without .result ≡ other-word (now (a .work)) (a .r) (a .v - 1) (c .before .before .before .before .before .scan .w)
-made c =
-    let a = c .before .before .before .before .before .before .before .args in
-    other-made (now (a .work)) (a .r) (a .v - 1) (c .before .before .before .before .before .scan .w) _ _ (rw (c .before .own .ensures) at (c .without .ensures)) (omega arith)
+-- something is left, and its top one is a digit of the word
+some : (c : tie.In-loop Inv-loop μ-loop Inv-scan μ-scan) → 0 < c .before .loop .rest
+some c = omega (arith, c .loop-test .taken)
+
+top : (c : tie.In-loop Inv-loop μ-loop Inv-scan μ-scan) → leadingZeros 64 (c .before .loop .rest) < 64
+top c = zeros-lt (c .before .loop .rest) (some c) (c .before .loop .inv .1 .ones .fits)
 
 mul-a : tie.Need-mul-a Inv-loop μ-loop Inv-scan μ-scan
 mul-a c = search needs
@@ -57,46 +57,38 @@ mul-without-2 c = search needs
 shared-slice-read-without-2 : tie.Need-shared-slice-read-without-2 Inv-loop μ-loop Inv-scan μ-scan
 shared-slice-read-without-2 c = search needs
 
-own-requires : tie.Need-own-requires Inv-loop μ-loop Inv-scan μ-scan
-own-requires c κs = search needs
-
 without-requires : tie.Need-without-requires Inv-loop μ-loop Inv-scan μ-scan
 without-requires c κs = search needs
 
 loop-holds : tie.Need-loop-holds Inv-loop μ-loop Inv-scan μ-scan
-loop-holds c = let s = c .before .before .before .before .before .before .scan in
-    (omega arith, s .inv .1, λ i h. s .inv .2 i (omega arith))
+loop-holds c = let a = c .before .before .before .before .before .before .args in
+    let s = c .before .before .before .before .scan in
+    (s .inv .1, scan-start (now (a .work)) (a .r) (a .v - 1) (s .w) _ (lack-made (now (a .work)) (a .r) (s .w) _ _ (c .without .ensures) (omega arith)) (search needs) (s .inv .2))
 
-sub-if2 : tie.Need-sub-if2 Inv-loop μ-loop Inv-scan μ-scan
-sub-if2 c = search needs
+cast-i : tie.Need-cast-i Inv-loop μ-loop Inv-scan μ-scan
+cast-i c = omega (arith, top c)
 
-shr-if2 : tie.Need-shr-if2 Inv-loop μ-loop Inv-scan μ-scan
-shr-if2 c = search needs
+mul-u : tie.Need-mul-u Inv-loop μ-loop Inv-scan μ-scan
+mul-u c = search needs
 
-mul-found : tie.Need-mul-found Inv-loop μ-loop Inv-scan μ-scan
-mul-found c = search needs
+add-u : tie.Need-add-u Inv-loop μ-loop Inv-scan μ-scan
+add-u c = omega (arith, top c)
 
-add-found : tie.Need-add-found Inv-loop μ-loop Inv-scan μ-scan
-add-found c = search needs
+add-u-2 : tie.Need-add-u-2 Inv-loop μ-loop Inv-scan μ-scan
+add-u-2 c = omega (arith, top c)
 
-add-found-2 : tie.Need-add-found-2 Inv-loop μ-loop Inv-scan μ-scan
-add-found-2 c = search needs
+sub-rest : tie.Need-sub-rest Inv-loop μ-loop Inv-scan μ-scan
+sub-rest c = omega (arith, top (c .before))
 
-add-b : tie.Need-add-b Inv-loop μ-loop Inv-scan μ-scan
-add-b c = search needs
+shl-rest : tie.Need-shl-rest Inv-loop μ-loop Inv-scan μ-scan
+shl-rest c = omega (arith, top (c .before))
 
 loop-less : tie.Need-loop-less Inv-loop μ-loop Inv-scan μ-scan
-loop-less c = search needs
+loop-less c = let l = c .before .before .loop in rest-less (l .rest) (some (c .before)) (l .inv .1 .ones .fits)
 
 loop-again : tie.Need-loop-again Inv-loop μ-loop Inv-scan μ-scan
 loop-again c = let l = c .before .before .loop in
-    let s = c .before .before .before .before .before .before .before .before .before .scan in
-    let a = c .before .before .before .before .before .before .before .before .before .before .before .args in (
-      omega arith,
-      l .inv .1,
-      λ i h. below-more (λ j. j ≢ a .v - 1 → lacks (now (a .work)) (a .r) j ≡ false) (s .w * 64 + l .b) (l .inv .2)
-          (other-no (now (a .work)) (a .r) (a .v - 1) (s .w) (l .b) (omega arith) (rw (← made (c .before .before .before .before)) (λ h. omega (arith, h, c .if2 .left)))) i (omega arith),
-    )
+    (l .inv .0, scan-next _ _ _ _ (l .rest) (l .inv .1) (some (c .before)) (omega (arith, c .if1 .left)))
 
 add-w : tie.Need-add-w Inv-loop μ-loop Inv-scan μ-scan
 add-w c = search needs
@@ -105,10 +97,8 @@ scan-less : tie.Need-scan-less Inv-loop μ-loop Inv-scan μ-scan
 scan-less c = search needs
 
 scan-again : tie.Need-scan-again Inv-loop μ-loop Inv-scan μ-scan
-scan-again c = let s = c .before .before .before .before .before .before .scan in
-    let a = c .before .before .before .before .before .before .before .before .args in
-    ⊎-elim (λ z. (omega arith, z .3 ∙ z .1 .inv .1, λ i h. z .1 .inv .2 i (omega (arith, z .1 .inv .0, z .2 .left))))
-    (λ z. (omega arith, z .1 ∙ s .inv .1, other-none (now (a .work)) (a .r) (a .v - 1) (s .w) (rw (← made (c .before)) (z .0 .left)) (s .inv .2))) (c .if1 .came)
+scan-again c = let l = c .before .loop in
+    (omega arith, l .inv .0, scan-end _ _ _ _ (l .rest) (l .inv .1) (omega (arith, c .loop-test .left)))
 
 returns : tie.Need-returns Inv-loop μ-loop Inv-scan μ-scan
 returns c = let s = c .before .scan in
@@ -116,13 +106,12 @@ returns c = let s = c .before .scan in
 
 returns-2 : tie.Need-returns-2 Inv-loop μ-loop Inv-scan μ-scan
 returns-2 c = let l = c .before .before .loop in
-    let s = c .before .before .before .before .before .before .before .before .before .scan in
-    let a = c .before .before .before .before .before .before .before .before .before .before .before .args in
-    let y = other-yes (now (a .work)) (a .r) (a .v - 1) (s .w) (l .b) (omega arith) (rw (← made (c .before .before .before .before)) (omega (arith, c .if2 .taken))) in
+    let s = c .before .before .before .before .before .before .before .scan in
+    let t = top (c .before) in
     record {
       none = λ e. absurd (omega arith);
-      some = λ i e. let q : i ≡ s .w * 64 + l .b = omega arith in rw q (omega arith, y .0, y .1);
-      least = λ i h. l .inv .2 i (omega arith);
+      some = λ i e. let q : i ≡ s .w * 64 + leadingZeros 64 (l .rest) = omega arith in rw q (omega arith, omega (arith, c .if1 .taken), scan-top _ _ _ _ (l .rest) (l .inv .1) (some (c .before)));
+      least = λ i h. scan-under _ _ _ _ (l .rest) (l .inv .1) (some (c .before)) i (omega arith);
     }
 
 pub partner-spec : {M : Type 1} → statement M
@@ -141,15 +130,14 @@ partner-spec =
     add-without-2
     mul-without-2
     shared-slice-read-without-2
-    own-requires
     without-requires
     loop-holds
-    sub-if2
-    shr-if2
-    mul-found
-    add-found
-    add-found-2
-    add-b
+    cast-i
+    mul-u
+    add-u
+    add-u-2
+    sub-rest
+    shl-rest
     loop-less
     loop-again
     add-w
