@@ -5,6 +5,7 @@
 --   entryAt                 an entry of the record; Recorded: one has been set
 --   homeAt ws v             the home of variable v, the row in which it last became basic; Homed: one has been set
 --   Added f t ws w          row f has been added into row t, which keeps its basic variable
+--   Gathered ws q r p x     which rows from q to below r have variable p + 1: a digit of x each, the lowest for the last row
 --   Column ws q e p x       which rows from q to below e have variable p + 1: a digit of x each, the top one for row q
 --   Chain Step k ws w       the steps 0 .. k - 1 one after another; Span Step a j ws w: the j steps from a on
 -- Assumes nothing.
@@ -12,7 +13,7 @@ use mathlib.Core.Path.{_≡_}
 use mathlib.Core.List.{List}
 use mathlib.Core.Logic.{_≢_, _⊎_}
 use mathlib.Core.Bool.{Bool, false}
-use Prim.Native.Nat.{ℕ, zero, suc, _+_, _*_, _-_, _/_, _%_, _<_, _≤_}
+use Prim.Native.Nat.{ℕ, zero, suc, _+_, _*_, _-_, _/_, _%_, _^_, _<_, _≤_}
 use lib.ListN.{length, getD}
 use lib.Bits.{bitXor}
 use Rattle.words.specs.Words.{digit, bitOf, bitAt}
@@ -57,6 +58,10 @@ pub record Added (f t : ℕ) (ws w : List ℕ) : Type 0 where
   pub bits : (j : ℕ) → j < coefWords + fromWords → getD w (rowAt t + j) 0 ≡ bitXor (getD ws (rowAt t + j) 0) (getD ws (rowAt f + j) 0)
   pub last : getD w (lastAt t) 0 ≡ getD ws (lastAt t) 0 / 2 * 2 + (getD ws (lastAt t) 0 % 2 + getD ws (lastAt f) 0 % 2) % 2
   pub rest : (i : ℕ) → (i < rowAt t) ⊎ (rowAt t + rowSize ≤ i) → getD w i 0 ≡ getD ws i 0
+
+pub record Gathered (ws : List ℕ) (q r p x : ℕ) : Type 0 where
+  pub low : x < 2 ^ (r - q)
+  pub digits : (i : ℕ) → q + i < r → bitOf x (r - suc (q + i)) ≡ bitAt ws (rowAt (q + i)) p
 
 pub record Column (ws : List ℕ) (q e p x : ℕ) : Type 0 where
   pub has : (i : ℕ) → i < 64 → q + i < e → bitOf x (63 - i) ≡ bitAt ws (rowAt (q + i)) p

@@ -5,7 +5,7 @@ ghost use mathlib.Core.Path.{_≡_};
 ghost use Prim.Native.Nat.{_+_, _*_, _-_, _<_, _≤_, min};
 ghost use lib.ListN.{length, getD};
 ghost use Rattle.tableau.specs.Layout.{coefWords, fromWords, maxVars, maxRows, maxTaken, rowAt, fromAt, knownAt, truthAt, homeStep, size};
-ghost use Rattle.tableau.specs.Buffer.{Run, Reads, Added, entryAt, homeAt, Recorded, Homed, Column};
+ghost use Rattle.tableau.specs.Buffer.{Run, Reads, Added, entryAt, homeAt, Recorded, Homed, Gathered, Column};
 
 // Past the code of the last literal.
 pub const CODES: u64 = 1026;
@@ -162,19 +162,30 @@ pub fn block_end(q: usize, k: usize) -> usize
     if k - q < 64 { k } else { q + 64 }
 }
 
-// Which rows from q to below e, 64 at most, have the variable v: a digit each, the top one for row q. Nothing is asked row by row, since which of them have it cannot be foreseen.
-pub fn column(work: &[u64], q: usize, e: usize, v: usize) -> u64
-    requires { ⌜ (size ≤ length (now work)) × (q < e) × (e ≤ q + 64) × (e ≤ maxRows) × (0 < v) × (v ≤ maxVars) ⌝ }
-    ensures { λ x. ⌜ Column (now (work .entry)) q e (v - 1) x ⌝ }
+// Which of the four rows from r on have the variable v: a digit each, the lowest for the last.
+fn four(work: &[u64], r: usize, v: usize) -> u64
+    requires { ⌜ (size ≤ length (now work)) × (r + 4 ≤ maxRows) × (0 < v) × (v ≤ maxVars) ⌝ }
+    ensures { λ x. ⌜ Gathered (now (work .entry)) r (r + 4) (v - 1) x ⌝ }
 {
     let p = v - 1;
-    let j = p / 64;
     let d = 63 - p % 64;
+    let a = ROW * r + p / 64;
+    let x = 2 * ((work[a] >> d) % 2) + (work[a + ROW] >> d) % 2;
+    let y = 2 * ((work[a + 2 * ROW] >> d) % 2) + (work[a + 3 * ROW] >> d) % 2;
+    4 * x + y
+}
+
+// Which rows from q to below e, 64 at most, have the variable v: a digit each, the top one for row q. Nothing is asked row by row, since which of them have it cannot be foreseen. Rows are read by eights, also some from e on.
+pub fn column(work: &[u64], q: usize, e: usize, v: usize) -> u64
+    requires { ⌜ (size ≤ length (now work)) × (q < e) × (e ≤ q + 64) × (q + 64 ≤ maxRows) × (0 < v) × (v ≤ maxVars) ⌝ }
+    ensures { λ x. ⌜ Column (now (work .entry)) q e (v - 1) x ⌝ }
+{
     let mut x = 0;
     let mut r = q;
     while r < e {
-        x = 2 * x + (work[ROW * r + j] >> d) % 2;
-        r += 1;
+        x = 16 * (16 * x + four(work, r, v)) + four(work, r + 4, v);
+        r += 8;
     }
-    x << (64 - (e - q))
+    // The digits of the rows from e on go, and the others move up.
+    (x >> (r - e)) << (64 - (e - q))
 }
