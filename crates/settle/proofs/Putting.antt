@@ -3,7 +3,6 @@
 --   put-done              what put has done
 --   Within w              none is true without a value; put-within: nor after one more value
 --   or-some, or-right     what a disjunction of bits says
---   without-stay          rows that have not a variable, after words behind the rows have changed
 -- Assumes nothing.
 use mathlib.Core.Path.{_≡_, refl, sym, ap, ap₂, _∙_}
 use mathlib.Core.List.{List}
@@ -18,8 +17,8 @@ use Rattle.gf2.specs.Field.{same}
 use Rattle.gf2.proofs.Sums.{same-dec, same-ne}
 use Rattle.words.specs.Words.{bitOf, bitAt, ownWord}
 use Rattle.words.proofs.Bits.{zero-bits, bit-or, own-bit, bit-same}
-use Rattle.tableau.specs.Layout.{maxVars, maxRows, rowAt, knownAt, truthAt, recordAt, size}
-use Rattle.settle.specs.Values.{Put, Without}
+use Rattle.tableau.specs.Layout.{maxVars, knownAt, truthAt, recordAt, size}
+use Rattle.settle.specs.Values.{Put}
 
 pub or-some : (a b : Bool) → (a || b) ≡ true → (a ≡ true) ⊎ (b ≡ true)
 or-some true b h = inl refl
@@ -95,6 +94,3 @@ put-within ws w p b pt h i l e = pt .known i l ∙ go (or-some (bitAt ws truthAt
     go : (bitAt ws truthAt i ≡ true) ⊎ (same p i && b ≡ true) → (bitAt ws knownAt i || same p i) ≡ true
     go (inl x) = or-left (bitAt ws knownAt i) (same p i) (h i l x)
     go (inr x) = or-right (bitAt ws knownAt i) (same p i) (and-left (same p i) b x)
-
-pub without-stay : (ws w : List ℕ) (a p : ℕ) → a ≤ maxRows → p < maxVars → ((i : ℕ) → i < knownAt → getD w i 0 ≡ getD ws i 0) → Without ws a p → Without w a p
-without-stay ws w a p la lp same h r l = bit-same ws w (rowAt r) (rowAt r) p (same (rowAt r + p / 64) (omega arith)) ∙ h r l

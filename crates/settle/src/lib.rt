@@ -18,7 +18,7 @@ ghost use Prim.Native.Nat.{_+_, _*_, _-_, _<_, _≤_};
 ghost use lib.ListN.{length};
 ghost use Rattle.tableau.specs.Layout.{coefWords, maxVars, maxRows, maxTaken, knownAt, size};
 ghost use Rattle.tableau.specs.Buffer.{Run, Chain, Span};
-ghost use Rattle.settle.specs.Values.{Overlay, Full, Put, valueAt, Ready, RowSettled, EntrySet, Restarted, RowFollowed, Without, Followed};
+ghost use Rattle.settle.specs.Values.{Overlay, Full, Put, valueAt, Ready, RowSettled, EntrySet, Restarted, RowFollowed, Followed};
 
 // Variable v gets the value b.
 pub fn put(work: &mut [u64], v: usize, b: bool)
@@ -179,7 +179,7 @@ pub fn restart(work: &mut [u64], k: usize, d: usize)
 
 // Each row from q to below e, 64 at most, that has the variable v gives its basic variable a value, if it does.
 fn follow_block(work: &mut [u64], q: usize, e: usize, v: usize)
-    requires { ⌜ (size ≤ length (now work)) × (q < e) × (e ≤ q + 64) × (e ≤ maxRows) × (0 < v) × (v ≤ maxVars) ⌝ }
+    requires { ⌜ (size ≤ length (now work)) × (q < e) × (e ≤ q + 64) × (q + 64 ≤ maxRows) × (0 < v) × (v ≤ maxVars) ⌝ }
     ensures { λ _. ⌜ Span (RowFollowed (v - 1)) q (e - q) (now (work .entry)) (now (work .exit)) ⌝ }
 {
     let mut rest = column(work, q, e, v);
@@ -190,13 +190,13 @@ fn follow_block(work: &mut [u64], q: usize, e: usize, v: usize)
     }
 }
 
-// Variable v gets the value b, and each row below k that has it gives its basic variable a value, if it does. No row below a has it.
-pub fn follow(work: &mut [u64], a: usize, k: usize, v: usize, b: bool)
-    requires { ⌜ (size ≤ length (now work)) × (a ≤ k) × (k ≤ maxRows) × (0 < v) × (v ≤ maxVars) × Without (now work) a (v - 1) ⌝ }
+// Variable v gets the value b, and each row below k that has it gives its basic variable a value, if it does.
+pub fn follow(work: &mut [u64], k: usize, v: usize, b: bool)
+    requires { ⌜ (size ≤ length (now work)) × (k ≤ maxRows) × (0 < v) × (v ≤ maxVars) ⌝ }
     ensures { λ _. ⌜ Followed k (v - 1) b (now (work .entry)) (now (work .exit)) ⌝ }
 {
     put(work, v, b);
-    let mut q = a;
+    let mut q = 0;
     while q < k {
         let e = block_end(q, k);
         follow_block(work, q, e, v);

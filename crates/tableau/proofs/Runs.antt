@@ -2,7 +2,7 @@
 --   run-none, run-more      nothing written yet; one word more
 --   run-reads               words copied to the front of a list; reads-at: from an equal place
 --   reads-bit, reads-sum    their bits, and the sum of the bits that two such lists share
---   chain-more, chain-idle  one step more; steps that change nothing
+--   chain-more              one step more
 --   chain-span              a chain of a steps, then a span of j steps from a on, is a chain of a + j steps
 --   span-two, span-idle     two steps; a span goes on over steps that change nothing
 -- Assumes nothing.
@@ -53,10 +53,6 @@ reads-sum k a b ws x y f g = sum-cong (k * 64) _ _ (λ i l. ap₂ _&&_ (reads-bi
 
 pub chain-more : (Step : ℕ → List ℕ → List ℕ → Type 0) (r : ℕ) (ws v w : List ℕ) → length v ≡ length ws → Chain Step r ws v → Step r v w → Chain Step (r + 1) ws w
 chain-more Step r ws v w e h s = rw (add-one r) (v, e, h, s)
-
-pub chain-idle : (Step : ℕ → List ℕ → List ℕ → Type 0) (k : ℕ) (ws : List ℕ) → ((r : ℕ) → r < k → Step r ws ws) → Chain Step k ws ws
-chain-idle Step zero ws h = refl
-chain-idle Step (suc k) ws h = (ws, refl, chain-idle Step k ws (λ r l. h r (omega arith)), h k (omega arith))
 
 pub chain-span : (Step : ℕ → List ℕ → List ℕ → Type 0) (a j : ℕ) (zs ws w : List ℕ) → length ws ≡ length zs → Chain Step a zs ws → Span Step a j ws w → Chain Step (a + j) zs w
 chain-span Step a zero zs ws w e c s = let n : a + 0 ≡ a = omega arith in rw n (rw s c)
