@@ -88,7 +88,7 @@ fn turn_row(work: &mut [u64], p: usize, u: usize, r: usize)
 
 // Each row from q to below e, 64 at most, that has the variable u is turned; row p, which has it, too if it is one of them.
 fn turn_block(work: &mut [u64], q: usize, e: usize, p: usize, u: usize)
-    requires { ⌜ (size ≤ length (now work)) × (q < e) × (e ≤ q + 64) × (e ≤ maxRows) × (p < maxRows) × (0 < u) × (u ≤ maxVars) × (bitAt (now work) (rowAt p) (u - 1) ≡ true) ⌝ }
+    requires { ⌜ (size ≤ length (now work)) × (q < e) × (e ≤ q + 64) × (q + 64 ≤ maxRows) × (p < maxRows) × (0 < u) × (u ≤ maxVars) × (bitAt (now work) (rowAt p) (u - 1) ≡ true) ⌝ }
     ensures { λ _. ⌜ Span (RowTurned p u) q (e - q) (now (work .entry)) (now (work .exit)) ⌝ }
 {
     let mut rest = column(work, q, e, u);
@@ -123,7 +123,7 @@ fn take(work: &mut [u64], k: usize, d: usize, code: usize) -> bool
     let p = find(work, k, v);
     if p == k {
         set_entry(work, d, code as u64);
-        follow(work, 0, k, v, b);
+        follow(work, k, v, b);
         return true;
     }
     let u = partner(work, p, v);

@@ -9,7 +9,6 @@
 --   Entry, EntrySet       an entry of the record that is a literal; its variable has been given its value
 --   Restarted k d ws w    the values have been made anew from the first d entries and the first k rows
 --   RowFollowed p r ws w  row r has been settled, if it has variable p + 1
---   Without ws a p        no row below a has variable p + 1
 --   Followed k p b ws w   variable p + 1 has been given the value b, and the rows below k that have it have been settled
 -- Assumes nothing.
 use mathlib.Core.Path.{_≡_}
@@ -71,9 +70,6 @@ pub record Restarted (k d : ℕ) (ws w : List ℕ) : Type 0 where
 
 abbrev pub RowFollowed : ℕ → ℕ → List ℕ → List ℕ → Type 0
 RowFollowed p r ws w = ((w ≡ ws) × (bitAt ws (rowAt r) p ≡ false)) ⊎ ((bitAt ws (rowAt r) p ≡ true) × RowSettled r ws w)
-
-abbrev pub Without : List ℕ → ℕ → ℕ → Type 0
-Without ws a p = (r : ℕ) → r < a → bitAt ws (rowAt r) p ≡ false
 
 pub record Followed (k p : ℕ) (b : Bool) (ws w : List ℕ) : Type 0 where
   pub begun : List ℕ

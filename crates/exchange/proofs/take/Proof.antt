@@ -2,7 +2,6 @@
 -- Assumes nothing.
 use mathlib.Core.Path.{_≡_, refl, _∙_}
 use Prim.Native.Nat.{ℕ, _<_, _≤_}
-use native.Mathlib.Nat.{not-suc-le-zero}
 use native.Mathlib.Omega.{arith}
 use borrow.Author.Needs.{needs}
 use Rattle.exchange.specs.Steps.{followed, turned, stuck}
@@ -24,7 +23,7 @@ set-entry-requires : tie.Need-set-entry-requires
 set-entry-requires c κs = search needs
 
 follow-requires : tie.Need-follow-requires
-follow-requires c κs = (search needs, omega arith, omega arith, omega arith, omega arith, λ r l. absurd (not-suc-le-zero l))
+follow-requires c κs = search needs
 
 same-length : tie.Need-same-length
 same-length c = search needs
