@@ -10,9 +10,9 @@ use native.Mathlib.Nat.{div-one, zero-lt-suc, mod-lt, mul-comm, mul-le-mul, le-r
 use native.Mathlib.Decide.{decLt}
 use native.Mathlib.Omega.{arith}
 use lib.ListN.{getD}
-use lib.Pow.{pow-pos, pow-mono, pow-add, shl-exact, shr-lt, shr-shr, high, low, field, mod-mod-pow}
+use lib.Pow.{pow-pos, pow-mono, pow-add, shl-exact, shr-lt, shr-shr, high, low}
 use Rattle.words.specs.Words.{digit, bitOf, bitAt}
-use Rattle.words.proofs.Ones.{high-digit, low-digit}
+use Rattle.words.proofs.Ones.{high-digit, low-digit, digit-below}
 use Rattle.tableau.specs.Layout.{rowAt}
 use Rattle.tableau.specs.Buffer.{Gathered, Column}
 
@@ -46,14 +46,7 @@ module _ (n x y : ℕ) (l : y < 2 ^ n) where
   upper j = ap (λ (z : ℕ). digit (z % 2)) (ap (λ (z : ℕ). z / 2 ^ (n + j)) commuted ∙ sym (shr-shr (x * 2 ^ n + y) n j) ∙ ap (λ (z : ℕ). z / 2 ^ j) (high x n l))
 
   lower : (j : ℕ) → j < n → bitOf (2 ^ n * x + y) j ≡ bitOf y j
-  lower j h =
-      let e : n ≡ n - suc j + 1 + j = omega arith in
-      let z = x * 2 ^ n + y in
-      ap (λ (t : ℕ). bitOf t j) commuted
-      ∙ ap digit (sym (mod-mod-pow (z / 2 ^ j) (n - suc j) 1))
-      ∙ ap (λ (t : ℕ). digit (t % 2)) (sym (field z (n - suc j + 1) j))
-      ∙ ap (λ (t : ℕ). bitOf (z % 2 ^ t) j) (sym e)
-      ∙ ap (λ (t : ℕ). bitOf t j) (low x n l)
+  lower j h = ap (λ (z : ℕ). bitOf z j) commuted ∙ sym (digit-below (x * 2 ^ n + y) n j h) ∙ ap (λ (z : ℕ). bitOf z j) (low x n l)
 
   joined-lt : (m : ℕ) → x < 2 ^ m → 2 ^ n * x + y < 2 ^ (m + n)
   joined-lt m h = rw (pow-add 2 m n) (room (2 ^ n) (2 ^ m) l (mul-le-mul h (le-refl (2 ^ n))))

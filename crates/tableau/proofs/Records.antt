@@ -1,6 +1,6 @@
 -- THE RECORD AND THE HOMES, two lists in the same words: what is set in one stays out of the other.
---   record-done    what set_entry has done
---   home-done      what set_home has done
+--   record-done    what set_entry has done, where the word it sets has the code below homeStep, and above it what it had
+--   home-done      what set_home has done, the other way round
 -- Assumes nothing.
 use mathlib.Core.Path.{_≡_, ap, _∙_}
 use mathlib.Core.List.{List}
@@ -12,19 +12,6 @@ use lib.Seq.{getD-set-same, getD-set-other}
 use Rattle.gf2.proofs.Sums.{same-dec}
 use Rattle.tableau.specs.Layout.{maxVars, maxTaken, recordAt, homeStep, size}
 use Rattle.tableau.specs.Buffer.{entryAt, homeAt, Recorded, Homed}
-
--- ---- a number below the step, and a number of steps
-below-part : (x c : ℕ) → c < homeStep → (x / homeStep * homeStep + c) % homeStep ≡ c
-below-part x c l = omega arith
-
-below-steps : (x c : ℕ) → c < homeStep → (x / homeStep * homeStep + c) / homeStep ≡ x / homeStep
-below-steps x c l = omega arith
-
-above-part : (x r : ℕ) → (x % homeStep + homeStep * r) % homeStep ≡ x % homeStep
-above-part x r = omega arith
-
-above-steps : (x r : ℕ) → (x % homeStep + homeStep * r) / homeStep ≡ r
-above-steps x r = omega arith
 
 -- ---- a word of the record set to y
 module _ (ws : List ℕ) (i y : ℕ) (l : recordAt + i < length ws) where
@@ -45,30 +32,24 @@ module _ (ws : List ℕ) (i y : ℕ) (l : recordAt + i < length ws) where
   before : (j : ℕ) → j < recordAt → getD after j 0 ≡ getD ws j 0
   before j h = getD-set-other ws (recordAt + i) j y 0 (λ (z : j ≡ recordAt + i). absurd (omega arith))
 
-pub record-done : (ws : List ℕ) (j code : ℕ) → size ≤ length ws → j < maxTaken → code < homeStep → Recorded j code ws (set ws (recordAt + j) (getD ws (recordAt + j) 0 / homeStep * homeStep + code))
+pub record-done : (ws : List ℕ) (j code y : ℕ) → size ≤ length ws → j < maxTaken → y % homeStep ≡ code → y / homeStep ≡ getD ws (recordAt + j) 0 / homeStep → Recorded j code ws (set ws (recordAt + j) y)
 unfolding entryAt homeAt
-record-done ws j code big l small =
+record-done ws j code y big l new old =
     record {
-      len = length-set ws (recordAt + j) word;
-      here = ap (λ (x : ℕ). x % homeStep) (getD-set-same ws (recordAt + j) word 0 (omega arith)) ∙ below-part (getD ws (recordAt + j) 0) code small;
-      others = λ i d. ap (λ (x : ℕ). x % homeStep) (others ws j word (omega arith) i d);
-      homes = λ v. part-stays ws j word (omega arith) (λ x. x / homeStep) (below-steps (getD ws (recordAt + j) 0) code small) (v - 1);
-      rest = before ws j word (omega arith);
+      len = length-set ws (recordAt + j) y;
+      here = ap (λ (x : ℕ). x % homeStep) (getD-set-same ws (recordAt + j) y 0 (omega arith)) ∙ new;
+      others = λ i d. ap (λ (x : ℕ). x % homeStep) (others ws j y (omega arith) i d);
+      homes = λ v. part-stays ws j y (omega arith) (λ x. x / homeStep) old (v - 1);
+      rest = before ws j y (omega arith);
     }
-  where
-    word : ℕ
-    word = getD ws (recordAt + j) 0 / homeStep * homeStep + code
 
-pub home-done : (ws : List ℕ) (v r : ℕ) → size ≤ length ws → 0 < v → v ≤ maxVars → Homed v r ws (set ws (recordAt + (v - 1)) (getD ws (recordAt + (v - 1)) 0 % homeStep + homeStep * r))
+pub home-done : (ws : List ℕ) (v r y : ℕ) → size ≤ length ws → 0 < v → v ≤ maxVars → y / homeStep ≡ r → y % homeStep ≡ getD ws (recordAt + (v - 1)) 0 % homeStep → Homed v r ws (set ws (recordAt + (v - 1)) y)
 unfolding entryAt homeAt
-home-done ws v r big lo hi =
+home-done ws v r y big lo hi new old =
     record {
-      len = length-set ws (recordAt + (v - 1)) word;
-      here = ap (λ (x : ℕ). x / homeStep) (getD-set-same ws (recordAt + (v - 1)) word 0 (omega arith)) ∙ above-steps (getD ws (recordAt + (v - 1)) 0) r;
-      others = λ u p d. ap (λ (x : ℕ). x / homeStep) (others ws (v - 1) word (omega arith) (u - 1) (λ (z : u - 1 ≡ v - 1). d (omega arith)));
-      entries = part-stays ws (v - 1) word (omega arith) (λ x. x % homeStep) (above-part (getD ws (recordAt + (v - 1)) 0) r);
-      rest = before ws (v - 1) word (omega arith);
+      len = length-set ws (recordAt + (v - 1)) y;
+      here = ap (λ (x : ℕ). x / homeStep) (getD-set-same ws (recordAt + (v - 1)) y 0 (omega arith)) ∙ new;
+      others = λ u p d. ap (λ (x : ℕ). x / homeStep) (others ws (v - 1) y (omega arith) (u - 1) (λ (z : u - 1 ≡ v - 1). d (omega arith)));
+      entries = part-stays ws (v - 1) y (omega arith) (λ x. x % homeStep) old;
+      rest = before ws (v - 1) y (omega arith);
     }
-  where
-    word : ℕ
-    word = getD ws (recordAt + (v - 1)) 0 % homeStep + homeStep * r

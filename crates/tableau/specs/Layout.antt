@@ -53,7 +53,7 @@ abbrev pub recordAt : ℕ
 recordAt = truthAt + coefWords
 
 abbrev pub homeStep : ℕ
-homeStep = 65536
+homeStep = 4294967296
 
 abbrev pub size : ℕ
 size = 4096

@@ -28,7 +28,7 @@ pub const TRUTH: usize = KNOWN + COEF_WORDS;
 // Where the record of taken literals starts.
 const RECORD: usize = TRUTH + COEF_WORDS;
 // In a word of the record, a literal's code stands below this, and a variable's home is counted by it.
-const HOME: u64 = 65536;
+const HOME: u64 = 4294967296;
 // The words in use.
 pub const SIZE: usize = 4096;
 

@@ -1,5 +1,6 @@
 -- THE ONES OF A WORD OF 64 DIGITS, from the top one down, as a loop takes them away.
 --   high-digit, low-digit             the digits of a word that has been shifted up
+--   digit-below                       the digits below n of what a word is modulo 2 ^ n
 --   zeros-lt, top-one, above-top      the top one of a word that is not 0, as the count of leading zeros finds it
 --   rest-less, gone-after, left-after the word without its top one
 --   Left x seen rest                  rest has the digits of x but the first `seen`, in place of which it has none
@@ -29,6 +30,13 @@ low-digit q e j =
     ap (λ (y : ℕ). bitOf y j) (ap (λ (y : ℕ). q * y) (pow-add 2 (suc e) j) ∙ sym (mul-assoc q (2 ^ suc e) (2 ^ j)))
     ∙ ap (λ (y : ℕ). digit (y % 2)) (shl-shr (q * 2 ^ suc e) j)
     ∙ ap digit (shifted-even q e)
+
+pub digit-below : (x n j : ℕ) → j < n → bitOf (x % 2 ^ n) j ≡ bitOf x j
+digit-below x n j l =
+    let e : n ≡ n - suc j + 1 + j = omega arith in
+    ap (λ (k : ℕ). bitOf (x % 2 ^ k) j) e
+    ∙ ap (λ (y : ℕ). digit (y % 2)) (field x (n - suc j + 1) j)
+    ∙ ap digit (mod-mod-pow (x / 2 ^ j) (n - suc j) 1)
 
 one-digit : (k : ℕ) → k < 64 → 1 * 2 ^ k % 2 ^ 64 ≡ 2 ^ k
 one-digit k l = ap (λ (y : ℕ). y % 2 ^ 64) (one-mul (2 ^ k)) ∙ mod-eq-of-lt (pow-lt l)
@@ -97,11 +105,7 @@ module _ (rest : ℕ) (pos : 0 < rest) (fits : rest < 2 ^ 64) where
       ∙ ap (λ (y : ℕ). digit (y % 2)) (div-eq-of-lt (lt-of-lt-of-le lower-lt (pow-mono g)))
 
   pub left-after : (i : ℕ) → suc (leadingZeros 64 rest) ≤ i → i < 64 → bitOf (bitXor rest (1 * 2 ^ (63 - leadingZeros 64 rest) % 2 ^ 64)) (63 - i) ≡ bitOf rest (63 - i)
-  left-after i a b =
-      let e : place ≡ place - suc (63 - i) + 1 + (63 - i) = omega arith in
-      ap (λ (y : ℕ). bitOf y (63 - i)) (after-lower ∙ lower-mod ∙ ap (λ (k : ℕ). rest % 2 ^ k) e)
-      ∙ ap (λ (y : ℕ). digit (y % 2)) (field rest (place - suc (63 - i) + 1) (63 - i))
-      ∙ ap digit (mod-mod-pow (rest / 2 ^ (63 - i)) (place - suc (63 - i)) 1)
+  left-after i a b = ap (λ (y : ℕ). bitOf y (63 - i)) (after-lower ∙ lower-mod) ∙ digit-below rest place (63 - i) (omega arith)
 
 -- ---- the ones taken away one after another
 pub record Left (x seen rest : ℕ) : Type 0 where

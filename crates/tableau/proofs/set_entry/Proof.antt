@@ -33,7 +33,7 @@ same-length : tie.Need-same-length
 same-length c = search needs
 
 returns : tie.Need-returns
-returns c = record-done _ _ _ (omega arith) (omega arith) (omega arith)
+returns c = record-done _ _ _ _ (omega arith) (omega arith) (omega arith) (omega arith)
 
 pub set-entry-spec : {M : Type 1} → statement M
 set-entry-spec =

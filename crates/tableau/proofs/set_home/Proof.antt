@@ -34,7 +34,7 @@ same-length : tie.Need-same-length
 same-length c = search needs
 
 returns : tie.Need-returns
-returns c = home-done _ _ _ (omega arith) (omega arith) (omega arith)
+returns c = home-done _ _ _ _ (omega arith) (omega arith) (omega arith) (omega arith) (omega arith)
 
 pub set-home-spec : {M : Type 1} → statement M
 set-home-spec =
