@@ -33,7 +33,7 @@ use Rattle.settle.specs.Values.{lacks, Followed}
 use Rattle.settle.proofs.Follows.{follow-made}
 use Rattle.exchange.specs.declared.Offer.{Offer}
 use Rattle.exchange.specs.declared.Offer.the-variants as offer
-use Rattle.exchange.specs.Steps.{Partner, Found, Exchanged, Took, followed, turned, stuck, Stepped, Outcome}
+use Rattle.exchange.specs.Steps.{Partner, Found, Exchanged, Took, followed, turned, stuck, Stepped, OfferOutcome}
 use Rattle.exchange.proofs.Exchanges.{exchange-rows, exchange-rest, exchange-homes}
 use Rattle.exchange.proofs.Finds.{found-none}
 use Rattle.exchange.proofs.Turns.{Apart, turned-apart}
@@ -236,7 +236,7 @@ module _ (n m : ℕ) (Sheet : ℕ → Row) (kept : ℕ → Bool) (d : ℕ) (x : 
           let b = room n k (s .R) (s .β) (suc d) (with-at x d (variable code)) (s .made .built .tableau) t in
           omega arith
 
-  pub step-made : (w : List ℕ) (ans : Offer) → length w ≡ length ws → Stepped k n d code ws w ans → Outcome n m Sheet kept d x y k (variable code) (value code) w ans
+  pub step-made : (w : List ℕ) (ans : Offer) → length w ≡ length ws → Stepped k n d code ws w ans → OfferOutcome n m Sheet kept d x y k (variable code) (value code) w ans
   step-made w offer.Held len (z, e, f) =
       (facts .0 (sym (known-bit n m Sheet kept d x y k ws s (variable code) mv) ∙ e) (sym (truth-bit n m Sheet kept d x y k ws s (variable code) mv) ∙ f), rw z s)
   step-made w offer.Conflict len (z, e, f) =

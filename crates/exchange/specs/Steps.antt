@@ -8,7 +8,7 @@
 --   Turned k p u q b ws w    variable q + 1 has been given the value b, and the rows below k have been turned, one after another
 --   Took k d code ws w x     a literal without a value: its variable was not basic, or has been exchanged, and it is taken (x true); or it cannot be (x false)
 --   Stepped k n d code ws w x   what a literal comes to at depth d of n; it is stuck by its row, or because n are taken
---   Outcome                  the same for a state of the module: what the definitions give, and the state afterwards; nothing is stuck
+--   OfferOutcome             the same for a state of the module: what the definitions give, and the state afterwards; nothing is stuck
 -- Assumes nothing.
 use mathlib.Core.Path.{_≡_}
 use mathlib.Core.List.{List}
@@ -71,9 +71,9 @@ Stepped k n d code ws w offer.Conflict = (w ≡ ws) × (bitAt ws knownAt (variab
 Stepped k n d code ws w offer.Taken = (bitAt ws knownAt (variable code - 1) ≡ false) × (d < n) × Took k d code ws w true
 Stepped k n d code ws w offer.Stuck = (w ≡ ws) × (bitAt ws knownAt (variable code - 1) ≡ false) × ((n ≤ d) ⊎ Took k d code ws w false)
 
-abbrev pub Outcome : (n m : ℕ) → (ℕ → Row) → (ℕ → Bool) → (d : ℕ) → (ℕ → ℕ) → (ℕ → Bool) → (k v : ℕ) → Bool → List ℕ → Offer → Type 0
-Outcome n m Sheet kept d x y k v b w offer.Held = Implied n m Sheet (Literals d x y) v b × MadeAt w n m Sheet kept d x y k
-Outcome n m Sheet kept d x y k v b w offer.Conflict = Conflict n m Sheet (And (Literals d x y) v b) × MadeAt w n m Sheet kept d x y k
-Outcome n m Sheet kept d x y k v b w offer.Taken =
+abbrev pub OfferOutcome : (n m : ℕ) → (ℕ → Row) → (ℕ → Bool) → (d : ℕ) → (ℕ → ℕ) → (ℕ → Bool) → (k v : ℕ) → Bool → List ℕ → Offer → Type 0
+OfferOutcome n m Sheet kept d x y k v b w offer.Held = Implied n m Sheet (Literals d x y) v b × MadeAt w n m Sheet kept d x y k
+OfferOutcome n m Sheet kept d x y k v b w offer.Conflict = Conflict n m Sheet (And (Literals d x y) v b) × MadeAt w n m Sheet kept d x y k
+OfferOutcome n m Sheet kept d x y k v b w offer.Taken =
     (Implied n m Sheet (Literals d x y) v b → ⊥) × (Conflict n m Sheet (And (Literals d x y) v b) → ⊥) × MadeAt w n m Sheet kept (suc d) (with-at x d v) (with-bool y d b) k
-Outcome n m Sheet kept d x y k v b w offer.Stuck = ⊥
+OfferOutcome n m Sheet kept d x y k v b w offer.Stuck = ⊥

@@ -80,9 +80,9 @@ module _ (n m : ℕ) (Sheet : ℕ → Row) (kept : ℕ → Bool) (kp : KeptPlace
       restart-made n m Sheet kept 0 (λ j. 0) (λ j. false) k (b .R) (b .β) (b .S) (a .middle) w ln (omega arith) (omega arith) (len ∙ sym (a .long)) (b .built) (taken-none n _ k (b .β)) (b .rows)
       (record { var = λ j h. absurd (not-suc-le-zero h); val = λ j h. absurd (not-suc-le-zero h) }) (b .homes) (a .settled)
 
-  pub open-fails : (q k : ℕ) (w : List ℕ) → Stopped m store ws q k w → (s : ℕ → Bool) × Fails n m Sheet kept q s × ((j : ℕ) → j < maxRows → bitAt w (fromAt k) j ≡ same q j ⊕ s j)
-  open-fails q k w a =
+  pub open-fails : (k : ℕ) (w : List ℕ) (a : Stopped m store ws k w) → (s : ℕ → Bool) × Fails n m Sheet kept (a .q) s × ((j : ℕ) → j < maxRows → bitAt w (fromAt k) j ≡ same (a .q) j ⊕ s j)
+  open-fails k w a =
       let l = a .low in
       let f = a .few in
       let g = a .long in
-      open-step n m Sheet kept kp store st ln lm q k (a .low) (omega arith) (a .middle) (omega arith) (opens-built q k (a .middle) (omega arith) (a .rows)) w Contradictory (a .last)
+      open-step n m Sheet kept kp store st ln lm (a .q) k (a .low) (omega arith) (a .middle) (omega arith) (opens-built (a .q) k (a .middle) (omega arith) (a .rows)) w Contradictory (a .last)

@@ -26,8 +26,8 @@ use Rattle.settle.specs.Values.{Restarted}
 use Rattle.exchange.specs.Steps.{Exchanged}
 use Rattle.opening.specs.declared.RowCase.{RowCase}
 use Rattle.opening.specs.declared.RowCase.the-variants.{Redundant, Contradictory, Kept}
-use Rattle.opening.specs.declared.Opening.{Opening}
-use Rattle.opening.specs.declared.Opening.the-variants.{Open, Unsat}
+use Rattle.opening.specs.declared.RowsCase.{RowsCase}
+use Rattle.opening.specs.declared.RowsCase.the-variants.{Open, Unsat}
 
 pub record Loaded (q k : ℕ) (store ws w : List ℕ) : Type 0 where
   pub coefs : (j : ℕ) → j < coefWords → getD w (rowAt k + j) 0 ≡ getD store (9 * q + j) 0
@@ -90,7 +90,8 @@ pub record AllIn (m : ℕ) (store ws : List ℕ) (k : ℕ) (w : List ℕ) : Type
   pub long : length middle ≡ length ws
   pub settled : Restarted k 0 middle w
 
-pub record Stopped (m : ℕ) (store ws : List ℕ) (q k : ℕ) (w : List ℕ) : Type 0 where
+pub record Stopped (m : ℕ) (store ws : List ℕ) (k : ℕ) (w : List ℕ) : Type 0 where
+  pub q : ℕ
   pub middle : List ℕ
   pub low : q < m
   pub rows : Opens store ws q k middle
@@ -98,6 +99,6 @@ pub record Stopped (m : ℕ) (store ws : List ℕ) (q k : ℕ) (w : List ℕ) : 
   pub long : length middle ≡ length ws
   pub last : RowDone q k store middle w Contradictory
 
-abbrev pub Answered : ℕ → List ℕ → List ℕ → Opening → List ℕ → Type 0
+abbrev pub Answered : ℕ → List ℕ → List ℕ → RowsCase → List ℕ → Type 0
 Answered m store ws (Open k) w = AllIn m store ws k w
-Answered m store ws (Unsat q k) w = Stopped m store ws q k w
+Answered m store ws (Unsat k) w = Stopped m store ws k w

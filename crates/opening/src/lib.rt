@@ -167,14 +167,14 @@ fn open_row(work: &mut [u64], rows: &[u64], q: usize, k: usize) -> RowCase
     }
 }
 
-// Open: the number of kept rows. Unsat: the place of the row that contradicts, and the number of rows kept before it.
-pub enum Opening {
+// What all rows that go in come to: so many are kept; one contradicts, after so many were kept.
+pub enum RowsCase {
     Open(usize),
-    Unsat(usize, usize),
+    Unsat(usize),
 }
 
 // All m rows of the row store go in, until one contradicts; then the variables that the rows alone decide get their values.
-pub fn open_rows(work: &mut [u64], rows: &[u64], m: usize) -> Opening
+pub fn open_rows(work: &mut [u64], rows: &[u64], m: usize) -> RowsCase
     requires { ⌜ (size ≤ length (now work)) × (9 * m ≤ length (now rows)) × (m ≤ maxRows) ⌝ }
     ensures { λ x. ⌜ Answered m (now (rows .entry)) (now (work .entry)) x (now (work .exit)) ⌝ }
 {
@@ -183,7 +183,7 @@ pub fn open_rows(work: &mut [u64], rows: &[u64], m: usize) -> Opening
     while q < m {
         match open_row(work, rows, q, k) {
             RowCase::Contradictory => {
-                return Opening::Unsat(q, k);
+                return RowsCase::Unsat(k);
             }
             RowCase::Kept => {
                 k += 1;
@@ -193,5 +193,5 @@ pub fn open_rows(work: &mut [u64], rows: &[u64], m: usize) -> Opening
         q += 1;
     }
     restart(work, k, 0);
-    Opening::Open(k)
+    RowsCase::Open(k)
 }

@@ -21,12 +21,12 @@ use Rattle.judge.specs.Checks.{assumeChecks, atDepth}
 use Rattle.judge.proofs.Judged.{assume-judged}
 use Rattle.words.specs.Words.{bitAt}
 use Rattle.tableau.specs.Layout.{knownAt, truthAt, size}
-use Rattle.tableau.specs.Buffer.{Reads}
+use Rattle.tableau.specs.Buffer.{Slice}
 use Rattle.tableau.specs.View.{MadeAt, vals}
-use Rattle.tableau.proofs.Runs.{reads-bit}
+use Rattle.tableau.proofs.Runs.{slice-bit}
 use Rattle.exchange.specs.declared.Offer.{Offer}
 use Rattle.exchange.specs.declared.Offer.the-variants as offer
-use Rattle.exchange.specs.Steps.{Stepped, Outcome}
+use Rattle.exchange.specs.Steps.{Stepped, OfferOutcome}
 use Rattle.exchange.proofs.Steps.{step-made}
 use Rattle.lists.specs.Listing.{isNew, ListPut}
 use Rattle.parity.specs.declared.Assuming.the-variants.{AssumeRefused, Held, Conflict, Taken}
@@ -75,7 +75,7 @@ module _ (h : Header) (work literals : List ℕ) (code : ℕ) where
 
       -- what it means for a state of the module
       abbrev Means : {p : Position} → Stands h work p → Offer → Type 0
-      Means s = Outcome (h .n) (h .m) (s .Sheet) (s .kept) (h .depth) (s .var) (s .val) (h .kept) (variable code) (value code) w
+      Means s = OfferOutcome (h .n) (h .m) (s .Sheet) (s .kept) (h .depth) (s .var) (s .val) (h .kept) (variable code) (value code) w
 
       meaning : {p : Position} (s : Stands h work p) (x : Offer) → length w ≡ length (take size work) → Did x → Means s x
       meaning s x e o =
@@ -97,7 +97,7 @@ module _ (h : Header) (work literals : List ℕ) (code : ℕ) where
           (record { refused = λ d e. absurd (not-refused d e); leaves = λ q. (refl, refl, refl, refl); right = λ q p s. absurd (meaning s offer.Stuck (ap length (o .0)) o) })
 
       -- the literals listed are those that the definition asks for
-      module _ (o : Did offer.Taken) (old : List ℕ) (reads : Reads 8 work knownAt old) (e : length w ≡ length (take size work)) (literals′ : List ℕ) (count : ℕ)
+      module _ (o : Did offer.Taken) (old : List ℕ) (reads : Slice 8 work knownAt old) (e : length w ≡ length (take size work)) (literals′ : List ℕ) (count : ℕ)
           (l : ListPut (h .n) 0 (scanned (h .n) (isNew (w ++ drop size work) old (code / 2)) (vals (w ++ drop size work) truthAt)) literals literals′ count) where
         after-bit : (off : ℕ) → off + 8 ≤ size → (i : ℕ) → i < 512 → bitAt (w ++ drop size work) off i ≡ bitAt w off i
         after-bit off b i c =
@@ -123,7 +123,7 @@ module _ (h : Header) (work literals : List ℕ) (code : ℕ) where
                 let b : i < 512 = let a = mv .high in let c = s .fit .vars in omega arith in
                 three _ _ _ _ _ _
                 (after-bit knownAt (omega arith) i b ∙ made-after s .values .knows i b)
-                (reads-bit 8 knownAt work old reads i (omega arith) ∙ sym (front-bit work room knownAt (omega arith) i b) ∙ s .made .values .knows i b)
+                (slice-bit 8 knownAt work old reads i (omega arith) ∙ sym (front-bit work room knownAt (omega arith) i b) ∙ s .made .values .knows i b)
                 (same-comm (suc i) (code / 2))
 
             sign : (p : Position) (s : Stands h work p) (v : ℕ) → Var (h .n) v → vals (w ++ drop size work) truthAt v ≡ made-after s .truth v

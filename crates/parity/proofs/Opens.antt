@@ -201,8 +201,11 @@ module _ (old : Header) (s store work literals rows : List ℕ) where
       }
 
     -- ---- row q contradicts
-    module _ (q k : ℕ) (ws : List ℕ) (x : ℕ) (rows′ : List ℕ) (e : length ws ≡ length (take size work)) (a : Stopped (mOf s) store′ (take size work) q k ws)
+    module _ (k : ℕ) (ws : List ℕ) (x : ℕ) (rows′ : List ℕ) (e : length ws ≡ length (take size work)) (a : Stopped (mOf s) store′ (take size work) k ws)
         (l : ListPut (mOf s) 0 (numbers (mOf s) (bitAt (ws ++ drop size work) (fromAt k))) rows rows′ x) where
+      abbrev q : ℕ
+      q = a .q
+
       pub promise-unsatisfiable : OpenPromise old s store work literals rows nothingOpen (Unsatisfiable x) store′ (ws ++ drop size work) literals rows′
       promise-unsatisfiable = record {
         refused = λ c z. absurd (not-refused c z);
@@ -221,7 +224,7 @@ module _ (old : Header) (s store work literals rows : List ℕ) where
           big = let z = front-long work (judged .1) in omega arith
 
           f : (t : ℕ → Bool) × Fails (nOf s) (mOf s) Sheet kept q t × ((j : ℕ) → j < 256 → bitAt ws (fromAt k) j ≡ same q j ⊕ t j)
-          f = open-fails (nOf s) (mOf s) Sheet kept is-kept store′ rows-read (judged .0 .n-small) (judged .0 .m-small) (take size work) big q k ws a
+          f = open-fails (nOf s) (mOf s) Sheet kept is-kept store′ rows-read (judged .0 .n-small) (judged .0 .m-small) (take size work) big k ws a
 
           before : (j : ℕ) → j < q → (t : ℕ → Bool) → Fails (nOf s) (mOf s) Sheet kept j t → ⊥
           before = let b = opens-built (nOf s) (mOf s) Sheet kept is-kept store′ rows-read (judged .0 .n-small) (judged .0 .m-small) (take size work) big q k (a .middle) (let z = a .low in omega arith) (a .rows) in
@@ -236,7 +239,7 @@ module _ (old : Header) (s store work literals rows : List ℕ) where
     pub promise-rows : (h : Header) (answer : Opening) (work′ literals′ rows′ : List ℕ) → RowsOpened (nOf s) (mOf s) store′ work literals rows h answer work′ literals′ rows′
         → OpenPromise old s store work literals rows h answer store′ work′ literals′ rows′
     promise-rows h answer work′ literals′ rows′ (all-in k ws x ls e a l) = promise-open k ws x ls e a l
-    promise-rows h answer work′ literals′ rows′ (stopped q k ws x rs e a l) = promise-unsatisfiable q k ws x rs e a l
+    promise-rows h answer work′ literals′ rows′ (stopped k ws x rs e a l) = promise-unsatisfiable k ws x rs e a l
 
 -- ---- as the code has it: n and m as they were read
 pub fill-fine : (s : List ℕ) (store words literals rows n m : ℕ) → Read n m ≡ openReading s store words literals rows

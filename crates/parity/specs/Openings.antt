@@ -28,6 +28,6 @@ pub data RowsOpened (n m : ℕ) (store work literals rows : List ℕ) : Header �
   all-in : (k : ℕ) (ws : List ℕ) (x : ℕ) (literals′ : List ℕ) → length ws ≡ length (take size work) → AllIn m store (take size work) k ws
       → ListPut n 0 (scanned n (vals (ws ++ drop size work) knownAt) (vals (ws ++ drop size work) truthAt)) literals literals′ x
       → RowsOpened n m store work literals rows (opensWith n m k) (Opened x) (ws ++ drop size work) literals′ rows
-  stopped : (q k : ℕ) (ws : List ℕ) (x : ℕ) (rows′ : List ℕ) → length ws ≡ length (take size work) → Stopped m store (take size work) q k ws
+  stopped : (k : ℕ) (ws : List ℕ) (x : ℕ) (rows′ : List ℕ) → length ws ≡ length (take size work) → Stopped m store (take size work) k ws
       → ListPut m 0 (numbers m (bitAt (ws ++ drop size work) (fromAt k))) rows rows′ x
       → RowsOpened n m store work literals rows nothingOpen (Unsatisfiable x) (ws ++ drop size work) literals rows′

@@ -1,6 +1,7 @@
 // The calls: open, assume, back and explain on a header by value and buffers that the caller lends.
 use exchange::Offer;
 use judge::Header;
+use opening::RowsCase;
 use sheet::Reading;
 use tableau::KNOWN;
 use tableau::SIZE;
@@ -127,14 +128,14 @@ fn open_all(
 {
     let x = opening::open_rows(&mut work[..SIZE], store, m);
     match x {
-        opening::Opening::Open(k) => {
+        RowsCase::Open(k) => {
             let count = lists::list_known(work, n, literals);
             OpenOut {
                 header: opens_with(n, m, k),
                 answer: Opening::Opened(count),
             }
         }
-        opening::Opening::Unsat(_, k) => {
+        RowsCase::Unsat(k) => {
             let count = lists::list_rows(work, k, m, rows);
             OpenOut {
                 header: nothing_open(),

@@ -14,14 +14,14 @@ use lib.Bits.{bitXor}
 use Rattle.words.specs.Words.{xorWords}
 use Rattle.words.proofs.Bits.{word-xor}
 use Rattle.tableau.specs.Layout.{maxRows, rowSize, rowAt, fromAt, lastAt, size}
-use Rattle.tableau.specs.Buffer.{Run, Reads, Added}
+use Rattle.tableau.specs.Buffer.{Run, Slice, Added}
 
 -- the sum of two runs of words, as it was loaded and is stored
-sum-word : (k a b : ℕ) (ws x y : List ℕ) → Reads k ws a x → Reads k ws b y → (j : ℕ) → j < k → getD (xorWords x y) (0 + j) 0 ≡ bitXor (getD ws (a + j) 0) (getD ws (b + j) 0)
+sum-word : (k a b : ℕ) (ws x y : List ℕ) → Slice k ws a x → Slice k ws b y → (j : ℕ) → j < k → getD (xorWords x y) (0 + j) 0 ≡ bitXor (getD ws (a + j) 0) (getD ws (b + j) 0)
 sum-word k a b ws x y f g j l = ap (λ (i : ℕ). getD (xorWords x y) i 0) (zero-add j) ∙ word-xor x y j ∙ ap₂ bitXor (f .word j l) (g .word j l)
 
 module _ (f t : ℕ) (ws x y p q s r u v : List ℕ) (big : size ≤ length ws) (lf : f < maxRows) (lt : t < maxRows)
-    (hx : Reads 8 ws (rowAt t) x) (hy : Reads 8 ws (rowAt f) y) (hp : Reads 4 ws (fromAt t) p) (hq : Reads 4 ws (fromAt f) q)
+    (hx : Slice 8 ws (rowAt t) x) (hy : Slice 8 ws (rowAt f) y) (hp : Slice 4 ws (fromAt t) p) (hq : Slice 4 ws (fromAt f) q)
     (es : s ≡ xorWords x y) (er : r ≡ xorWords p q) (a : Run (rowAt t) 8 (λ j. getD s (0 + j) 0) ws u) (b : Run (fromAt t) 4 (λ j. getD r (0 + j) 0) u v) where
   abbrev pub last-word : ℕ
   last-word = getD ws (lastAt t) 0 / 2 * 2 + (getD ws (lastAt t) 0 % 2 + getD ws (lastAt f) 0 % 2) % 2

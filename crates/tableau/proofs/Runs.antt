@@ -1,7 +1,7 @@
 -- LOOPS THAT WRITE A RUN OF WORDS, and steps one after another.
 --   run-none, run-more      nothing written yet; one word more
---   run-reads               words copied to the front of a list; reads-at: from an equal place
---   reads-bit, reads-sum    their bits, and the sum of the bits that two such lists share
+--   run-slice               words copied to the front of a list; slice-at: from an equal place
+--   slice-bit, slice-sum    their bits, and the sum of the bits that two such lists share
 --   chain-more              one step more
 --   chain-span              a chain of a steps, then a span of j steps from a on, is a chain of a + j steps
 --   span-two, span-idle     two steps; a span goes on over steps that change nothing
@@ -21,7 +21,7 @@ use Rattle.gf2.proofs.Sums.{sum-cong}
 use Rattle.linear.proofs.Exchange.{at-or-not}
 use Rattle.words.specs.Words.{bitAt}
 use Rattle.words.proofs.Bits.{bit-same}
-use Rattle.tableau.specs.Buffer.{Run, Reads, Chain, Span}
+use Rattle.tableau.specs.Buffer.{Run, Slice, Chain, Span}
 
 pub run-none : (off : ℕ) (want : ℕ → ℕ) (ws : List ℕ) → Run off 0 want ws ws
 run-none off want ws = record { len = refl; done = λ i l. absurd (not-suc-le-zero l); rest = λ i h. refl }
@@ -39,17 +39,17 @@ run-more off j want ws w x r l e =
     rest i (inl h) = getD-set-other w (off + j) i x 0 (λ (z : i ≡ off + j). absurd (omega arith)) ∙ r .rest i (inl h)
     rest i (inr h) = getD-set-other w (off + j) i x 0 (λ (z : i ≡ off + j). absurd (omega arith)) ∙ r .rest i (inr (omega arith))
 
-pub run-reads : (k at : ℕ) (ws zs r : List ℕ) → Run 0 k (λ j. getD ws (at + j) 0) zs r → Reads k ws at r
-run-reads k at ws zs r h = record { word = λ j l. ap (λ (x : ℕ). getD r x 0) (sym (zero-add j)) ∙ h .done j l }
+pub run-slice : (k at : ℕ) (ws zs r : List ℕ) → Run 0 k (λ j. getD ws (at + j) 0) zs r → Slice k ws at r
+run-slice k at ws zs r h = record { word = λ j l. ap (λ (x : ℕ). getD r x 0) (sym (zero-add j)) ∙ h .done j l }
 
-pub reads-bit : (k at : ℕ) (ws r : List ℕ) → Reads k ws at r → (i : ℕ) → i < k * 64 → bitAt r 0 i ≡ bitAt ws at i
-reads-bit k at ws r h i l = bit-same ws r at 0 i (ap (λ (x : ℕ). getD r x 0) (zero-add (i / 64)) ∙ h .word (i / 64) (omega arith))
+pub slice-bit : (k at : ℕ) (ws r : List ℕ) → Slice k ws at r → (i : ℕ) → i < k * 64 → bitAt r 0 i ≡ bitAt ws at i
+slice-bit k at ws r h i l = bit-same ws r at 0 i (ap (λ (x : ℕ). getD r x 0) (zero-add (i / 64)) ∙ h .word (i / 64) (omega arith))
 
-pub reads-at : (k a b : ℕ) (ws r : List ℕ) → Reads k ws a r → a ≡ b → Reads k ws b r
-reads-at k a b ws r h e = rw e at h
+pub slice-at : (k a b : ℕ) (ws r : List ℕ) → Slice k ws a r → a ≡ b → Slice k ws b r
+slice-at k a b ws r h e = rw e at h
 
-pub reads-sum : (k a b : ℕ) (ws x y : List ℕ) → Reads k ws a x → Reads k ws b y → xsum (k * 64) (λ i. bitAt x 0 i && bitAt y 0 i) ≡ xsum (k * 64) (λ i. bitAt ws a i && bitAt ws b i)
-reads-sum k a b ws x y f g = sum-cong (k * 64) _ _ (λ i l. ap₂ _&&_ (reads-bit k a ws x f i l) (reads-bit k b ws y g i l))
+pub slice-sum : (k a b : ℕ) (ws x y : List ℕ) → Slice k ws a x → Slice k ws b y → xsum (k * 64) (λ i. bitAt x 0 i && bitAt y 0 i) ≡ xsum (k * 64) (λ i. bitAt ws a i && bitAt ws b i)
+slice-sum k a b ws x y f g = sum-cong (k * 64) _ _ (λ i l. ap₂ _&&_ (slice-bit k a ws x f i l) (slice-bit k b ws y g i l))
 
 pub chain-more : (Step : ℕ → List ℕ → List ℕ → Type 0) (r : ℕ) (ws v w : List ℕ) → length v ≡ length ws → Chain Step r ws v → Step r v w → Chain Step (r + 1) ws w
 chain-more Step r ws v w e h s = rw (add-one r) (v, e, h, s)

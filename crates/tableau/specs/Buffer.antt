@@ -1,6 +1,6 @@
 -- WHAT THE LEAF OPERATIONS READ AND WRITE, on every buffer.
 --   Run off k want ws w     the k words from off are the wanted ones; the others of ws are as they were
---   Reads k ws at r         r has the k words of ws from place at
+--   Slice k ws at r         r is the k words of ws from place at
 --   basicAt, parityAt       the basic variable and the parity of a row
 --   entryAt                 an entry of the record; Recorded: one has been set
 --   homeAt ws v             the home of variable v, the row in which it last became basic; Homed: one has been set
@@ -24,7 +24,7 @@ pub record Run (off k : ℕ) (want : ℕ → ℕ) (ws w : List ℕ) : Type 0 whe
   pub done : (i : ℕ) → i < k → getD w (off + i) 0 ≡ want i
   pub rest : (i : ℕ) → (i < off) ⊎ (off + k ≤ i) → getD w i 0 ≡ getD ws i 0
 
-pub record Reads (k : ℕ) (ws : List ℕ) (at : ℕ) (r : List ℕ) : Type 0 where
+pub record Slice (k : ℕ) (ws : List ℕ) (at : ℕ) (r : List ℕ) : Type 0 where
   pub word : (j : ℕ) → j < k → getD r j 0 ≡ getD ws (at + j) 0
 
 abbrev pub basicAt : List ℕ → ℕ → ℕ

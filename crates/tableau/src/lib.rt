@@ -5,7 +5,7 @@ ghost use mathlib.Core.Path.{_≡_};
 ghost use Prim.Native.Nat.{_+_, _*_, _-_, _<_, _≤_, min};
 ghost use lib.ListN.{length, getD};
 ghost use Rattle.tableau.specs.Layout.{coefWords, fromWords, maxVars, maxRows, maxTaken, rowAt, fromAt, knownAt, truthAt, homeStep, size};
-ghost use Rattle.tableau.specs.Buffer.{Run, Reads, Added, entryAt, homeAt, Recorded, Homed, Gathered, Column};
+ghost use Rattle.tableau.specs.Buffer.{Run, Slice, Added, entryAt, homeAt, Recorded, Homed, Gathered, Column};
 
 // Past the code of the last literal.
 pub const CODES: u64 = 1026;
@@ -47,7 +47,7 @@ fn copy(target: &mut [u64], at: usize, source: &[u64], start: usize, count: usiz
 // The eight words from place `at`.
 pub fn words_at(work: &[u64], at: usize) -> [u64; 8]
     requires { ⌜ at + coefWords ≤ length (now work) ⌝ }
-    ensures { λ r. ⌜ Reads coefWords (now (work .entry)) at r ⌝ }
+    ensures { λ r. ⌜ Slice coefWords (now (work .entry)) at r ⌝ }
 {
     let mut out = [0u64; 8];
     copy(&mut out, 0, work, at, COEF_WORDS);
@@ -57,7 +57,7 @@ pub fn words_at(work: &[u64], at: usize) -> [u64; 8]
 // The coefficients of row r.
 pub fn load(work: &[u64], r: usize) -> [u64; 8]
     requires { ⌜ (size ≤ length (now work)) × (r < maxRows) ⌝ }
-    ensures { λ x. ⌜ Reads coefWords (now (work .entry)) (rowAt r) x ⌝ }
+    ensures { λ x. ⌜ Slice coefWords (now (work .entry)) (rowAt r) x ⌝ }
 {
     words_at(work, ROW * r)
 }
@@ -73,7 +73,7 @@ pub fn store(work: &mut [u64], r: usize, row: [u64; 8])
 // The provenance of row r.
 fn load_from(work: &[u64], r: usize) -> [u64; 4]
     requires { ⌜ (size ≤ length (now work)) × (r < maxRows) ⌝ }
-    ensures { λ x. ⌜ Reads fromWords (now (work .entry)) (fromAt r) x ⌝ }
+    ensures { λ x. ⌜ Slice fromWords (now (work .entry)) (fromAt r) x ⌝ }
 {
     let mut out = [0u64; 4];
     copy(&mut out, 0, work, ROW * r + FROM, FROM_WORDS);
@@ -141,7 +141,7 @@ pub fn set_home(work: &mut [u64], v: usize, r: usize)
 // Which variables have a value.
 pub fn copy_known(work: &[u64]) -> [u64; 8]
     requires { ⌜ size ≤ length (now work) ⌝ }
-    ensures { λ x. ⌜ Reads coefWords (now (work .entry)) knownAt x ⌝ }
+    ensures { λ x. ⌜ Slice coefWords (now (work .entry)) knownAt x ⌝ }
 {
     words_at(work, KNOWN)
 }
@@ -149,7 +149,7 @@ pub fn copy_known(work: &[u64]) -> [u64; 8]
 // Which variables are true.
 pub fn copy_truth(work: &[u64]) -> [u64; 8]
     requires { ⌜ size ≤ length (now work) ⌝ }
-    ensures { λ x. ⌜ Reads coefWords (now (work .entry)) truthAt x ⌝ }
+    ensures { λ x. ⌜ Slice coefWords (now (work .entry)) truthAt x ⌝ }
 {
     words_at(work, TRUTH)
 }

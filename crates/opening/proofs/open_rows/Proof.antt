@@ -32,7 +32,7 @@ same-length c = search needs
 returns : tie.Need-returns Inv-loop μ-loop
 returns c = let l = c .before .before .before .before .before .before .before .loop in
     let o = c .before .before .before .before .open-row in
-    record { middle = l .work; low = omega arith; rows = l .inv .2; few = l .inv .1; long = l .inv .3; last = rw (c .enum-told .given .1) at (o .ensures) }
+    record { q = l .q; middle = l .work; low = omega arith; rows = l .inv .2; few = l .inv .1; long = l .inv .3; last = rw (c .enum-told .given .1) at (o .ensures) }
 
 enum-told-2 : tie.Need-enum-told-2 Inv-loop μ-loop
 enum-told-2 c = search needs

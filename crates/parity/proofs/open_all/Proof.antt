@@ -66,7 +66,7 @@ returns-2 : tie.Need-returns-2
 returns-2 c = let lr = c .before .before .before in
     let xx = lr .before .before .before .before in
     let o = xx .before .before .before .before in
-    rw (c .nothing-open .ensures) (stopped _ _ (o .open-rows .last .0) (lr .list-rows .result) _ (o .open-rows .kept .0) (rw (xx .x2 .given .1) at (o .open-rows .ensures)) (lr .list-rows .ensures))
+    rw (c .nothing-open .ensures) (stopped _ (o .open-rows .last .0) (lr .list-rows .result) _ (o .open-rows .kept .0) (rw (xx .x2 .given .1) at (o .open-rows .ensures)) (lr .list-rows .ensures))
 
 pub open-all-spec : {M : Type 1} → statement M
 open-all-spec =

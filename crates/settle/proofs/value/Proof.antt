@@ -9,12 +9,12 @@ use borrow.Author.Needs.{needs}
 use Rattle.gf2.specs.Field.{xsum}
 use Rattle.words.specs.Words.{bitAt}
 use Rattle.tableau.specs.Layout.{maxVars, rowAt, lastAt, truthAt}
-use Rattle.tableau.proofs.Runs.{reads-sum}
+use Rattle.tableau.proofs.Runs.{slice-sum}
 use Rattle.settle.proofs.value.Statement.{statement}
 use Rattle.settle.proofs.value.Tie as tie
 
 sum : (c : tie.After-odd) → c .odd .result ≡ xsum maxVars (λ i. bitAt (c .before .before .before .before .args .work .now) (rowAt (c .before .before .before .before .args .r)) i && bitAt (c .before .before .before .before .args .work .now) truthAt i)
-sum c = c .odd .ensures ∙ reads-sum 8 (rowAt (c .before .before .before .before .args .r)) truthAt (c .before .before .before .before .args .work .now) _ _ (c .before .before .load .ensures) (c .before .copy-truth .ensures)
+sum c = c .odd .ensures ∙ slice-sum 8 (rowAt (c .before .before .before .before .args .r)) truthAt (c .before .before .before .before .args .work .now) _ _ (c .before .before .load .ensures) (c .before .copy-truth .ensures)
 
 load-requires : tie.Need-load-requires
 load-requires c κs = search needs

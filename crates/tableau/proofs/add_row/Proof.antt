@@ -5,7 +5,7 @@ use native.Mathlib.Omega.{arith}
 use lib.ListN.{length-set}
 use borrow.Author.Needs.{needs}
 use Rattle.tableau.specs.Layout.{rowAt, fromAt, lastAt}
-use Rattle.tableau.proofs.Runs.{reads-at}
+use Rattle.tableau.proofs.Runs.{slice-at}
 use Rattle.tableau.proofs.Adding.{add-done}
 use Rattle.tableau.proofs.add_row.Statement.{statement}
 use Rattle.tableau.proofs.add_row.Tie as tie
@@ -85,8 +85,8 @@ same-length c = simp length-set (c .before .before .store-from .kept .0 ∙ c .b
 returns : tie.Need-returns
 returns c = let a = c .before .before .before .before .before .before .before .before .before .before .before .before .before .before .before .before .before .before .before .before .before .args in
     add-done (a .from) (a .to) (a .work .now) _ _ _ _ _ _ _ _ (omega arith) (omega arith) (omega arith)
-    (c .before .before .before .before .before .before .before .before .before .before .before .before .before .before .before .before .before .before .load .ensures) (reads-at 8 _ (rowAt (a .from)) _ _ (c .before .before .before .before .before .before .before .before .before .before .before .before .before .before .before .before .load2 .ensures) (omega arith))
-    (c .before .before .before .before .before .before .before .before .before .before .before .before .before .load-from .ensures) (reads-at 4 _ (fromAt (a .from)) _ _ (c .before .before .before .before .before .before .before .before .before .before .before .load-from2 .ensures) (omega arith))
+    (c .before .before .before .before .before .before .before .before .before .before .before .before .before .before .before .before .before .before .load .ensures) (slice-at 8 _ (rowAt (a .from)) _ _ (c .before .before .before .before .before .before .before .before .before .before .before .before .before .before .before .before .load2 .ensures) (omega arith))
+    (c .before .before .before .before .before .before .before .before .before .before .before .before .before .load-from .ensures) (slice-at 4 _ (fromAt (a .from)) _ _ (c .before .before .before .before .before .before .before .before .before .before .before .load-from2 .ensures) (omega arith))
     (c .before .before .before .before .before .before .before .before .before .before .before .before .before .before .before .sum .ensures) (c .before .before .before .before .before .before .before .before .before .before .sum-from .ensures) (c .before .before .before .before .before .before .store .ensures) (c .before .before .store-from .ensures)
 
 pub add-row-spec : {M : Type 1} → statement M

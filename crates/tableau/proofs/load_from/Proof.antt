@@ -2,7 +2,7 @@
 -- Assumes nothing.
 use borrow.Author.Needs.{needs}
 use Rattle.tableau.specs.Layout.{fromAt}
-use Rattle.tableau.proofs.Runs.{run-reads}
+use Rattle.tableau.proofs.Runs.{run-slice}
 use Rattle.tableau.proofs.load_from.Statement.{statement}
 use Rattle.tableau.proofs.load_from.Tie as tie
 
@@ -19,7 +19,7 @@ copy-requires : tie.Need-copy-requires
 copy-requires c κs = search needs
 
 returns : tie.Need-returns
-returns c = run-reads 4 (fromAt (c .before .before .before .before .args .r)) (c .before .before .before .before .args .work .now) _ _ (c .before .copy .ensures)
+returns c = run-slice 4 (fromAt (c .before .before .before .before .args .r)) (c .before .before .before .before .args .work .now) _ _ (c .before .copy .ensures)
 
 pub load-from-spec : {M : Type 1} → statement M
 load-from-spec = tie.close (tie.spec slice-aggregate-copy mul-copy add-copy copy-requires returns)
