@@ -11,7 +11,7 @@ use borrow.Author.Tests.{ltb-true, ltb-false}
 use lib.Dec.{ltb}
 use lib.ListN.{length, take, drop, length-take}
 use Rattle.format.specs.Bits.{bitsOf, valueOf}
-use Rattle.format.specs.Refusals.{unless, refusal}
+use Rattle.format.specs.Refusals.{cond, refusal}
 use Rattle.format.specs.Sheet.{nOf, mOf, sizeFor, paddingOf, reader}
 use Rattle.format.proofs.Bytes.{take-bits}
 use Rattle.format.proofs.Runs.{drop-take, take-min}
@@ -28,11 +28,11 @@ part-head k s h l =
     )
 
 -- refusal 4 is given by its own line only
-another : (b : Bool) (k r : ℕ) → unless b k r ≡ 4 → (k ≡ 4 → ⊥) → (b ≡ false) × (r ≡ 4)
+another : (b : Bool) (k r : ℕ) → cond b k r ≡ 4 → (k ≡ 4 → ⊥) → (b ≡ false) × (r ≡ 4)
 another true k r e ne = absurd (ne e)
 another false k r e ne = (refl, e)
 
-fourth : (a b c : Bool) → unless a 4 (unless b 5 (unless c 6 0)) ≡ 4 → a ≡ true
+fourth : (a b c : Bool) → cond a 4 (cond b 5 (cond c 6 0)) ≡ 4 → a ≡ true
 fourth true b c e = refl
 fourth false true c e = absurd (omega arith)
 fourth false false true e = absurd (omega arith)
@@ -41,10 +41,10 @@ fourth false false false e = absurd (omega arith)
 longer : (s : List ℕ) (room : ℕ) → refusal (reader s room) ≡ 4 → (3 ≤ length s) × (sizeFor (nOf s) (mOf s) < length s)
 longer s room e =
     let size : ℕ = sizeFor (nOf s) (mOf s) in
-    let r₄ : ℕ = unless (ltb size (length s)) 4 (unless (ltb 0 (paddingOf s)) 5 (unless (ltb room (9 * mOf s)) 6 0)) in
-    let r₁ : ℕ = unless (ltb (length s) size) 1 r₄ in
-    let r₃ : ℕ = unless (ltb 256 (mOf s)) 3 r₁ in
-    let r₂ : ℕ = unless (ltb 512 (nOf s)) 2 r₃ in
+    let r₄ : ℕ = cond (ltb size (length s)) 4 (cond (ltb 0 (paddingOf s)) 5 (cond (ltb room (9 * mOf s)) 6 0)) in
+    let r₁ : ℕ = cond (ltb (length s) size) 1 r₄ in
+    let r₃ : ℕ = cond (ltb 256 (mOf s)) 3 r₁ in
+    let r₂ : ℕ = cond (ltb 512 (nOf s)) 2 r₃ in
     let p₀ = another (ltb (length s) 3) 1 r₂ e (λ z. omega arith) in
     let p₂ = another (ltb 512 (nOf s)) 2 r₃ (p₀ .1) (λ z. omega arith) in
     let p₃ = another (ltb 256 (mOf s)) 3 r₁ (p₂ .1) (λ z. omega arith) in

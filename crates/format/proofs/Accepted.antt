@@ -18,7 +18,7 @@ use lib.Seq.{take-all}
 use Rattle.format.proofs.Bytes.{length-bitsOf}
 use Rattle.format.proofs.Clean.{not-false}
 use Rattle.format.specs.Bits.{bitsOf, valueOf}
-use Rattle.format.specs.Refusals.{Check, check, unless, refusal}
+use Rattle.format.specs.Refusals.{Check, check, cond, refusal}
 use Rattle.format.specs.Sheet.{nOf, mOf, bitsFor, sizeFor, paddingOf, clean, reader, writer}
 use Rattle.format.proofs.Refusing as refusing
 
@@ -63,7 +63,7 @@ module _ (s : List ℕ) (n m room : ℕ) where
         take-all (sizeFor n m * 8 - bitsFor n m) (drop (bitsFor n m) (bitsOf s))
         (omega (arith, length-drop (bitsFor n m) (bitsOf s), length-bitsOf s))
 
-    sized : refusal (later s n m room) ≡ unless (ltb 0 (valueOf (drop (bitsFor n m) (bitsOf s)))) 5 (unless (ltb room (9 * m)) 6 0)
+    sized : refusal (later s n m room) ≡ cond (ltb 0 (valueOf (drop (bitsFor n m) (bitsOf s)))) 5 (cond (ltb room (9 * m)) 6 0)
     sized = simp (le-ltb 512 n hn, le-ltb 256 m hm, le-ltb (length s) (sizeFor n m) (omega arith), le-ltb (sizeFor n m) (length s) (omega arith))
 
     pub later-5 : 0 < valueOf (drop (bitsFor n m) (bitsOf s)) → refusal (later s n m room) ≡ 5

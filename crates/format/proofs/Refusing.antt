@@ -13,18 +13,18 @@ use native.Mathlib.Omega.{arith}
 use borrow.Author.Tests.{ltb-true}
 use Rattle.gf2.specs.Lists.{All}
 use Rattle.gf2.proofs.Search.{and-both, not-true}
-use Rattle.format.specs.Refusals.{Check, unless, refusal}
+use Rattle.format.specs.Refusals.{Check, cond, refusal}
 
 -- no check has the number 0
 abbrev pub positive : List Check → Bool
 positive [] = true
 positive (c ∷ cs) = ltb 0 (c .number) && positive cs
 
-pub accepted : (cs : List Check) → positive cs ≡ true → refusal cs ≡ 0 → All (λ c. c .fails ≡ false) cs
+pub accepted : (cs : List Check) → positive cs ≡ true → refusal cs ≡ 0 → All (λ c. c .holds ≡ false) cs
 accepted [] p h = tt
-accepted (c ∷ cs) p h = go (accepted cs (and-both (ltb 0 (c .number)) (positive cs) p .1)) (c .fails) refl h
+accepted (c ∷ cs) p h = go (accepted cs (and-both (ltb 0 (c .number)) (positive cs) p .1)) (c .holds) refl h
   where
-    go : (refusal cs ≡ 0 → All (λ c. c .fails ≡ false) cs) → (b : Bool) → c .fails ≡ b → unless b (c .number) (refusal cs) ≡ 0 → All (λ c. c .fails ≡ false) (c ∷ cs)
+    go : (refusal cs ≡ 0 → All (λ c. c .holds ≡ false) cs) → (b : Bool) → c .holds ≡ b → cond b (c .number) (refusal cs) ≡ 0 → All (λ c. c .holds ≡ false) (c ∷ cs)
     go rest true e f = let l = ltb-true 0 (c .number) (and-both (ltb 0 (c .number)) (positive cs) p .0) in absurd (omega arith)
     go rest false e f = (e, rest f)
 
@@ -35,25 +35,25 @@ without k (c ∷ cs) = not (eqb (c .number) k) && without k cs
 
 pub never : (k : ℕ) (cs : List Check) → without k cs ≡ true → (j : ℕ) → refusal cs ≡ suc j → eqb (suc j) k ≡ false
 never k [] p j h = absurd (omega arith)
-never k (c ∷ cs) p j h = go (never k cs (and-both (not (eqb (c .number) k)) (without k cs) p .1) j) (c .fails) h
+never k (c ∷ cs) p j h = go (never k cs (and-both (not (eqb (c .number) k)) (without k cs) p .1) j) (c .holds) h
   where
-    go : (refusal cs ≡ suc j → eqb (suc j) k ≡ false) → (b : Bool) → unless b (c .number) (refusal cs) ≡ suc j → eqb (suc j) k ≡ false
+    go : (refusal cs ≡ suc j → eqb (suc j) k ≡ false) → (b : Bool) → cond b (c .number) (refusal cs) ≡ suc j → eqb (suc j) k ≡ false
     go rest true e = rw (← e) (not-true (eqb (c .number) k) (and-both (not (eqb (c .number) k)) (without k cs) p .0))
     go rest false e = rest e
 
 pub append-some : (cs ds : List Check) (j : ℕ) → refusal cs ≡ suc j → refusal (cs ++ ds) ≡ suc j
 append-some [] ds j h = absurd (omega arith)
-append-some (c ∷ cs) ds j h = go (append-some cs ds j) (c .fails) h
+append-some (c ∷ cs) ds j h = go (append-some cs ds j) (c .holds) h
   where
-    go : (refusal cs ≡ suc j → refusal (cs ++ ds) ≡ suc j) → (b : Bool) → unless b (c .number) (refusal cs) ≡ suc j → unless b (c .number) (refusal (cs ++ ds)) ≡ suc j
+    go : (refusal cs ≡ suc j → refusal (cs ++ ds) ≡ suc j) → (b : Bool) → cond b (c .number) (refusal cs) ≡ suc j → cond b (c .number) (refusal (cs ++ ds)) ≡ suc j
     go more true e = e
     go more false e = more e
 
 pub append-none : (cs ds : List Check) → positive cs ≡ true → refusal cs ≡ 0 → refusal (cs ++ ds) ≡ refusal ds
 append-none [] ds p h = refl
-append-none (c ∷ cs) ds p h = go (append-none cs ds (and-both (ltb 0 (c .number)) (positive cs) p .1)) (c .fails) h
+append-none (c ∷ cs) ds p h = go (append-none cs ds (and-both (ltb 0 (c .number)) (positive cs) p .1)) (c .holds) h
   where
-    go : (refusal cs ≡ 0 → refusal (cs ++ ds) ≡ refusal ds) → (b : Bool) → unless b (c .number) (refusal cs) ≡ 0 → unless b (c .number) (refusal (cs ++ ds)) ≡ refusal ds
+    go : (refusal cs ≡ 0 → refusal (cs ++ ds) ≡ refusal ds) → (b : Bool) → cond b (c .number) (refusal cs) ≡ 0 → cond b (c .number) (refusal (cs ++ ds)) ≡ refusal ds
     go more true e = let l = ltb-true 0 (c .number) (and-both (ltb 0 (c .number)) (positive cs) p .0) in absurd (omega arith)
     go more false e = more e
 

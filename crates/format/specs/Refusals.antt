@@ -1,5 +1,6 @@
 -- REFUSALS (document 01, "Refusal numbers": given exactly when its line holds and no earlier check did).
 --   Check        a line of the table: its number, and whether it holds
+--   cond b x y   x where b is true, else y
 --   refusal cs   the number of the first check of cs that holds; 0 where none does
 -- Assumes nothing.
 use mathlib.Core.Bool.{Bool, true, false}
@@ -8,15 +9,15 @@ use Prim.Native.Nat.{ℕ}
 
 pub record Check : Type 0 where
   pub number : ℕ
-  pub fails : Bool
+  pub holds : Bool
 
 abbrev pub check : ℕ → Bool → Check
-check number fails = record { number = number; fails = fails }
+check number holds = record { number = number; holds = holds }
 
-abbrev pub unless : Bool → ℕ → ℕ → ℕ
-unless true number rest = number
-unless false number rest = rest
+abbrev pub cond : Bool → ℕ → ℕ → ℕ
+cond true x y = x
+cond false x y = y
 
 abbrev pub refusal : List Check → ℕ
 refusal [] = 0
-refusal (c ∷ cs) = unless (c .fails) (c .number) (refusal cs)
+refusal (c ∷ cs) = cond (c .holds) (c .number) (refusal cs)

@@ -72,10 +72,10 @@ openChecks s store words literals rows = reader s store ++ openOwn s words liter
 
 -- what an opening leaves that is not refused
 abbrev pub OpenLeaves : List ℕ → Header → Opening → List ℕ → List ℕ → List ℕ → List ℕ → List ℕ → Type 0
-OpenLeaves s h (OpenRefused c) work literals rows literals′ rows′ = ⊥
-OpenLeaves s h (Unsatisfiable x) work literals rows literals′ rows′ = (h ≡ nothingOpen) × (x ≤ mOf s) × (literals′ ≡ literals) × Used x rows rows′
-OpenLeaves s h (Opened x) work literals rows literals′ rows′ =
-    (h ≡ opensWith (nOf s) (mOf s) (h .kept)) × (x ≤ nOf s) × Used x literals literals′ × (rows′ ≡ rows) × Stands h work (start (nOf s) (sheetRows s))
+OpenLeaves s h (OpenRefused c) work′ literals rows literals′ rows′ = ⊥
+OpenLeaves s h (Unsatisfiable x) work′ literals rows literals′ rows′ = (h ≡ nothingOpen) × (x ≤ mOf s) × (literals′ ≡ literals) × Used x rows rows′
+OpenLeaves s h (Opened x) work′ literals rows literals′ rows′ =
+    (h ≡ opensWith (nOf s) (mOf s) (h .kept)) × (x ≤ nOf s) × Used x literals literals′ × (rows′ ≡ rows) × Stands h work′ (start (nOf s) (sheetRows s))
 
 pub record OpenDone (s : List ℕ) (store work literals rows : List ℕ) (h : Header) (answer : Opening) (store′ work′ literals′ rows′ : List ℕ) : Type 0 where
   pub filled : store′ ≡ storeWords (nOf s) (mOf s) (drop 19 (bitsOf s)) ++ drop (9 * mOf s) store
