@@ -8,6 +8,12 @@ use sheet::Writing;
 ghost use Rattle.parity.specs.Promises.{BackPromise};
 ghost use Rattle.capi.specs.Exports.{ReadExport, WriteExport, OpenExport, AssumeExport, ExplainExport};
 
+// The numbers of answers that are neither 0, done, nor a refusal.
+const HELD: u64 = 100;
+const CONFLICT: u64 = 101;
+const UNSATISFIABLE: u64 = 102;
+
+// What reading answers: n and m of the sheet.
 #[repr(C)]
 pub struct ReadNumbers {
     pub number: u64,
@@ -15,12 +21,14 @@ pub struct ReadNumbers {
     pub m: usize,
 }
 
+// What writing answers: the bytes written.
 #[repr(C)]
 pub struct WriteNumbers {
     pub number: u64,
     pub size: usize,
 }
 
+// What opening answers: how many literals are listed, or row numbers where it is unsatisfiable, and the header.
 #[repr(C)]
 pub struct OpenNumbers {
     pub number: u64,
@@ -28,6 +36,7 @@ pub struct OpenNumbers {
     pub header: Header,
 }
 
+// What assuming answers: how many literals are listed, or the variable of a conflict, and the header.
 #[repr(C)]
 pub struct AssumeNumbers {
     pub number: u64,
@@ -35,6 +44,7 @@ pub struct AssumeNumbers {
     pub header: Header,
 }
 
+// What explaining answers: how many codes and how many row numbers are listed.
 #[repr(C)]
 pub struct ExplainNumbers {
     pub number: u64,
@@ -95,7 +105,7 @@ pub extern "C" fn parity_open(
             header,
         },
         Opening::Unsatisfiable(count) => OpenNumbers {
-            number: 102,
+            number: UNSATISFIABLE,
             count,
             header,
         },
@@ -127,12 +137,12 @@ pub extern "C" fn parity_assume(
             header,
         },
         Assuming::Held => AssumeNumbers {
-            number: 100,
+            number: HELD,
             count: 0,
             header,
         },
         Assuming::Conflict(v) => AssumeNumbers {
-            number: 101,
+            number: CONFLICT,
             count: v,
             header,
         },

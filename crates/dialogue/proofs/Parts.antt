@@ -3,7 +3,7 @@
 --   never-longer  so it is never longer than its size: refusal 4 does not occur in a session
 -- Assumes nothing.
 use mathlib.Core.Path.{_≡_, refl, ap, _∙_}
-use mathlib.Core.Bool.{Bool, true, false}
+use mathlib.Core.Bool.{Bool, true, false, cond}
 use mathlib.Core.List.{List}
 use Prim.Native.Nat.{ℕ, _-_, _*_, _<_, _≤_, min}
 use native.Mathlib.Omega.{arith}
@@ -11,7 +11,7 @@ use borrow.Author.Tests.{ltb-true, ltb-false}
 use lib.Dec.{ltb}
 use lib.ListN.{length, take, drop, length-take}
 use Rattle.format.specs.Bits.{bitsOf, valueOf}
-use Rattle.format.specs.Refusals.{cond, refusal}
+use Rattle.format.specs.Refusals.{refusal}
 use Rattle.format.specs.Sheet.{nOf, mOf, sizeFor, paddingOf, reader}
 use Rattle.format.proofs.Bytes.{take-bits}
 use Rattle.format.proofs.Runs.{drop-take, take-min}

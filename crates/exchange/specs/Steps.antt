@@ -6,7 +6,7 @@
 --   Exchanged k p u ws w     variable u has been removed from the rows below k but p, and is basic in row p
 --   RowTurned p u r ws w     row p has been added to row r, if that has variable u, and row r has then been settled; row p itself has been pointed to u and settled
 --   Turned k p u q b ws w    variable q + 1 has been given the value b, and the rows below k have been turned, one after another
---   Took k d code ws w x     a literal without a value: its variable was not basic, or has been exchanged, and it is taken (x true); or it cannot be (x false)
+--   Took k d code ws w x     a literal without a value: its variable is not basic at its home, or has been exchanged there, and it is taken (x true); or it cannot be (x false)
 --   Stepped k n d code ws w x   what a literal comes to at depth d of n; it is stuck by its row, or because n are taken
 --   OfferOutcome             the same for a state of the module: what the definitions give, and the state afterwards; nothing is stuck
 -- Assumes nothing.

@@ -24,7 +24,7 @@ ghost use Rattle.tableau.specs.Layout.{maxVars, maxRows, maxTaken, rowAt, size}
 ghost use Rattle.tableau.specs.Buffer.{Span};
 ghost use Rattle.exchange.specs.Steps.{Partner, Found, pointed, RowTurned, Turned, Took, Stepped};
 
-// The lowest variable of row r that has no value and is not v, or 0. On a state of the module, where v is basic in row r, it is not basic.
+// The lowest variable of row r that has no value and is not v, or 0. On a state of the module, where v is basic in row r, no other variable of the row is basic.
 fn partner(work: &[u64], r: usize, v: usize) -> usize
     requires { ⌜ (size ≤ length (now work)) × (r < maxRows) × (0 < v) × (v ≤ maxVars) ⌝ }
     ensures { λ x. ⌜ Partner (now (work .entry)) r (v - 1) x ⌝ }
@@ -49,7 +49,7 @@ fn partner(work: &[u64], r: usize, v: usize) -> usize
     found
 }
 
-// The row below k whose basic variable is v, or k. On a state of the module each row is the home of its basic variable, so the home of v decides.
+// The home of v, if it is below k and v is basic there, else k. On a state of the module that is the row whose basic variable is v, if there is one.
 pub fn find(work: &[u64], k: usize, v: usize) -> usize
     requires { ⌜ (size ≤ length (now work)) × (k ≤ maxRows) × (0 < v) × (v ≤ maxVars) ⌝ }
     ensures { λ x. ⌜ Found (now (work .entry)) k v x ⌝ }
@@ -105,15 +105,15 @@ fn turn(work: &mut [u64], k: usize, p: usize, u: usize, v: usize, b: bool)
     ensures { λ _. ⌜ Turned k p u (v - 1) b (now (work .entry)) (now (work .exit)) ⌝ }
 {
     put(work, v, b);
-    let mut a = 0;
-    while a < k {
-        let e = block_end(a, k);
-        turn_block(work, a, e, p, u);
-        a = e;
+    let mut q = 0;
+    while q < k {
+        let e = block_end(q, k);
+        turn_block(work, q, e, p, u);
+        q = e;
     }
 }
 
-// A literal whose variable has no value is taken at depth d, if it can be.
+// A literal whose variable has no value is taken at depth d, if it can be: whether it was. If not, nothing has changed.
 fn take(work: &mut [u64], k: usize, d: usize, code: usize) -> bool
     requires { ⌜ (size ≤ length (now work)) × (k ≤ maxRows) × (d < maxTaken) × (2 ≤ code) × (code < 2 * maxVars + 2) ⌝ }
     ensures { λ x. ⌜ Took k d code (now (work .entry)) (now (work .exit)) x ⌝ }
@@ -130,6 +130,7 @@ fn take(work: &mut [u64], k: usize, d: usize, code: usize) -> bool
     if u == 0 {
         return false;
     }
+    // u becomes basic in row p: that is its home.
     set_home(work, u, p);
     set_entry(work, d, code as u64);
     turn(work, k, p, u, v, b);

@@ -5,7 +5,7 @@
 --   Accepted, accepted   what a sheet is that passes them all, and that it is so
 --   Writable, writable   the same of what is to be written
 -- Assumes nothing.
-use mathlib.Core.Bool.{true}
+use mathlib.Core.Bool.{true, cond}
 use mathlib.Core.List.{List, [], _∷_}
 use mathlib.Core.Path.{_≡_, refl, sym, ap₂, _∙_}
 use Prim.Native.Nat.{ℕ, _+_, _-_, _*_, _≤_, _<_}
@@ -18,7 +18,7 @@ use lib.Seq.{take-all}
 use Rattle.format.proofs.Bytes.{length-bitsOf}
 use Rattle.format.proofs.Clean.{not-false}
 use Rattle.format.specs.Bits.{bitsOf, valueOf}
-use Rattle.format.specs.Refusals.{Check, check, cond, refusal}
+use Rattle.format.specs.Refusals.{Check, check, refusal}
 use Rattle.format.specs.Sheet.{nOf, mOf, bitsFor, sizeFor, paddingOf, clean, reader, writer}
 use Rattle.format.proofs.Refusing as refusing
 

@@ -5,7 +5,7 @@
 --   either-.., none-either   one of two conditions holds; neither does
 -- Assumes nothing.
 use mathlib.Core.Path.{_≡_, refl}
-use mathlib.Core.Bool.{Bool, true, false, not, _||_, _&&_, true≢false}
+use mathlib.Core.Bool.{Bool, true, false, not, _||_, _&&_, true≢false, cond}
 use mathlib.Core.List.{List, [], _∷_, _++_}
 use lib.Dec.{eqb, ltb}
 use Prim.Native.Nat.{ℕ, suc}
@@ -13,7 +13,7 @@ use native.Mathlib.Omega.{arith}
 use borrow.Author.Tests.{ltb-true}
 use Rattle.gf2.specs.Lists.{All}
 use Rattle.gf2.proofs.Search.{and-both, not-true}
-use Rattle.format.specs.Refusals.{Check, cond, refusal}
+use Rattle.format.specs.Refusals.{Check, refusal}
 
 -- no check has the number 0
 abbrev pub positive : List Check → Bool

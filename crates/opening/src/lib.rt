@@ -53,9 +53,9 @@ fn reduce_by(work: &mut [u64], k: usize, r: usize)
     ensures { λ _. ⌜ Reduced k r (now (work .entry)) (now (work .exit)) ⌝ }
 {
     let x = work[ROW * r + LAST];
-    // x / 2, such that x / 2 - 1 is one shift
+    // x / 2, written so that x / 2 - 1 is one shift
     let v = (x - 2) / 2 + 1;
-    // row k as a part, such that no turn adds its place
+    // row k by itself, so that its place is not added for each row
     let a = ROW * k;
     let e = a + FROM;
     if bit(&work[a..e], 0, v as usize) {

@@ -1,9 +1,9 @@
 -- WHAT THE LEAF OPERATIONS READ AND WRITE, on every buffer.
 --   Run off k want ws w     the k words from off are the wanted ones; the others of ws are as they were
---   Slice k ws at r         r is the k words of ws from place at
+--   Slice k ws at r         the first k words of r are those of ws from place at
 --   basicAt, parityAt       the basic variable and the parity of a row
 --   entryAt                 an entry of the record; Recorded: one has been set
---   homeAt ws v             the home of variable v, the row in which it last became basic; Homed: one has been set
+--   homeAt ws v             the home of variable v, v above 0: on a state of the module its row, if it is basic (View, Homes), and of no meaning else; Homed: one has been set
 --   Added f t ws w          row f has been added into row t, which keeps its basic variable
 --   Gathered ws q r p x     which rows from q to below r have variable p + 1: a digit of x each, the lowest for the last row
 --   Column ws q e p x       which rows from q to below e have variable p + 1: a digit of x each, the top one for row q

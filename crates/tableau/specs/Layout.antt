@@ -10,9 +10,8 @@
 --     lastAt r                2 × its basic variable + its parity
 --   knownAt  .. + coefWords the variables that have a value
 --   truthAt  .. + coefWords those of them that are true
---   recordAt .. + maxTaken  two lists in the same words. Below homeStep: the codes of the taken literals, in the order in which they were taken.
---                           Above: the home of each variable, the row in which it last became basic
---   size                    the words in use
+--   recordAt .. + maxTaken  word j is homeStep × the home of variable j + 1, plus entry j of the record: the codes of the taken literals, in the order in which they were taken
+--   size                    the words that a call hands on; those behind the record are not touched
 -- Assumes nothing.
 use Prim.Native.Nat.{ℕ, _+_, _*_}
 

@@ -7,8 +7,10 @@ ghost use lib.ListN.{length, getD};
 ghost use Rattle.tableau.specs.Layout.{coefWords, fromWords, maxVars, maxRows, maxTaken, rowAt, fromAt, knownAt, truthAt, homeStep, size};
 ghost use Rattle.tableau.specs.Buffer.{Run, Slice, Added, entryAt, homeAt, Recorded, Homed, Gathered, Column};
 
-// Past the code of the last literal.
-pub const CODES: u64 = 1026;
+// The most variables.
+const MAX_VARS: u64 = 512;
+// Past the code of the last literal, and past 2 × the last variable + a parity.
+pub const CODES: u64 = 2 * MAX_VARS + 2;
 // Words of a bit for each variable.
 pub const COEF_WORDS: usize = 8;
 // Words of a bit for each row.
@@ -25,11 +27,11 @@ pub const ROW: usize = LAST + 1;
 pub const KNOWN: usize = ROW * MAX_ROWS;
 // Where the true ones of them start.
 pub const TRUTH: usize = KNOWN + COEF_WORDS;
-// Where the record of taken literals starts.
+// Where the record of taken literals starts, and with it the homes.
 const RECORD: usize = TRUTH + COEF_WORDS;
-// In a word of the record, a literal's code stands below this, and a variable's home is counted by it.
-const HOME: u64 = 4294967296;
-// The words in use.
+// Word j of the record is HOME_STEP × the home of variable j + 1, plus entry j.
+const HOME_STEP: u64 = 4294967296;
+// The words that a call hands on; those behind the record are not touched.
 pub const SIZE: usize = 4096;
 
 // `count` words of `source` from place `start` go to `target` from place `at`.
@@ -107,7 +109,7 @@ pub fn entry(work: &[u64], j: usize) -> u64
     requires { ⌜ (size ≤ length (now work)) × (j < maxTaken) ⌝ }
     ensures { λ x. ⌜ x ≡ entryAt (now (work .entry)) j ⌝ }
 {
-    work[RECORD + j] % HOME
+    work[RECORD + j] % HOME_STEP
 }
 
 // Entry j of the record becomes a literal's code.
@@ -117,15 +119,15 @@ pub fn set_entry(work: &mut [u64], j: usize, code: u64)
 {
     let at = RECORD + j;
     let x = work[at];
-    work[at] = x / HOME * HOME + code;
+    work[at] = x / HOME_STEP * HOME_STEP + code;
 }
 
-// The home of variable v, the row in which it last became basic.
+// The home of variable v: on a state of the module, its row if it is basic; of any other variable it says nothing.
 pub fn home(work: &[u64], v: usize) -> u64
     requires { ⌜ (size ≤ length (now work)) × (0 < v) × (v ≤ maxVars) ⌝ }
     ensures { λ x. ⌜ x ≡ homeAt (now (work .entry)) v ⌝ }
 {
-    work[RECORD + (v - 1)] / HOME
+    work[RECORD + (v - 1)] / HOME_STEP
 }
 
 // Row r becomes the home of variable v.
@@ -135,7 +137,7 @@ pub fn set_home(work: &mut [u64], v: usize, r: usize)
 {
     let at = RECORD + (v - 1);
     let x = work[at];
-    work[at] = x % HOME + HOME * (r as u64);
+    work[at] = x % HOME_STEP + HOME_STEP * (r as u64);
 }
 
 // Which variables have a value.
@@ -154,7 +156,7 @@ pub fn copy_truth(work: &[u64]) -> [u64; 8]
     words_at(work, TRUTH)
 }
 
-// Where the rows from q on end that are taken together: 64 at most, and below k.
+// Where the block of rows that begins at q ends: at q + 64, or at k if that comes first.
 pub fn block_end(q: usize, k: usize) -> usize
     requires { ⌜ (q < k) × (k ≤ maxRows) ⌝ }
     ensures { λ e. ⌜ e ≡ min k (q + 64) ⌝ }
@@ -162,7 +164,7 @@ pub fn block_end(q: usize, k: usize) -> usize
     if k - q < 64 { k } else { q + 64 }
 }
 
-// Which of the four rows from r on have the variable v: a digit each, the lowest for the last.
+// Which of the four rows from r on have the variable v: a digit each, the lowest for row r + 3.
 fn four(work: &[u64], r: usize, v: usize) -> u64
     requires { ⌜ (size ≤ length (now work)) × (r + 4 ≤ maxRows) × (0 < v) × (v ≤ maxVars) ⌝ }
     ensures { λ x. ⌜ Gathered (now (work .entry)) r (r + 4) (v - 1) x ⌝ }
@@ -175,7 +177,8 @@ fn four(work: &[u64], r: usize, v: usize) -> u64
     4 * x + y
 }
 
-// Which rows from q to below e, 64 at most, have the variable v: a digit each, the top one for row q. Nothing is asked row by row, since which of them have it cannot be foreseen. Rows are read by eights, also some from e on.
+// Which rows from q to below e, 64 at most, have the variable v: a digit each, the top one for row q. They are read without a branch,
+// since which of them have it cannot be foreseen, and by eights: up to seven rows from e on are read too, which q + 64 ≤ maxRows allows.
 pub fn column(work: &[u64], q: usize, e: usize, v: usize) -> u64
     requires { ⌜ (size ≤ length (now work)) × (q < e) × (e ≤ q + 64) × (q + 64 ≤ maxRows) × (0 < v) × (v ≤ maxVars) ⌝ }
     ensures { λ x. ⌜ Column (now (work .entry)) q e (v - 1) x ⌝ }

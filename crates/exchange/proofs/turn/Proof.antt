@@ -17,10 +17,10 @@ use Rattle.exchange.proofs.turn.Tie as tie
 
 -- the pass begins at the first row, and each block at a multiple of 64, so that 64 rows have room from there on
 abbrev Inv-loop : tie.InvT-loop
-Inv-loop work₀ k p u v b a₀ work a = (a₀ ≡ 0) × (a ≤ k) × (a < k → a % 64 ≡ 0) × Chain (RowTurned p u) a work₀ work × (length work ≡ length work₀)
+Inv-loop work₀ k p u v b q₀ work q = (q₀ ≡ 0) × (q ≤ k) × (q < k → q % 64 ≡ 0) × Chain (RowTurned p u) q work₀ work × (length work ≡ length work₀)
 
 abbrev μ-loop : tie.MeasureT-loop
-μ-loop work₀ k p u v b a₀ work a = k - a
+μ-loop work₀ k p u v b q₀ work q = k - q
 
 put-requires : tie.Need-put-requires Inv-loop μ-loop
 put-requires c κs = search needs
@@ -44,7 +44,7 @@ turn-block-requires c κs = let s = c .before .before .before .before .before .b
       omega arith,
       omega arith,
       omega arith,
-      pivot-stays (a .p) (a .u) (omega arith) (a .u - 1) (omega arith) (l .a) _ (l .work) (l .inv .3)
+      pivot-stays (a .p) (a .u) (omega arith) (a .u - 1) (omega arith) (l .q) _ (l .work) (l .inv .3)
           ∙ bit-same _ _ (rowAt (a .p)) (rowAt (a .p)) (a .u - 1) (f .ensures .rest (rowAt (a .p) + (a .u - 1) / 64) (inl (omega arith)))
           ∙ s .pre .7,
     )
@@ -56,14 +56,14 @@ loop-again : tie.Need-loop-again Inv-loop μ-loop
 loop-again c = let l = c .before .before .before .before .before .before .loop in
     let b = c .before .before .before .before .block-end in
     let t = c .before .before .turn-block in
-    let n : l .a + (b .result - l .a) ≡ b .result = omega arith in
-    (l .inv .0, omega arith, λ h. omega (arith, l .inv .2 (omega arith)), rw n at (chain-span (RowTurned _ _) (l .a) (b .result - l .a) _ _ _ (l .inv .4) (l .inv .3) (t .ensures)), t .kept .0 ∙ l .inv .4)
+    let n : l .q + (b .result - l .q) ≡ b .result = omega arith in
+    (l .inv .0, omega arith, λ h. omega (arith, l .inv .2 (omega arith)), rw n at (chain-span (RowTurned _ _) (l .q) (b .result - l .q) _ _ _ (l .inv .4) (l .inv .3) (t .ensures)), t .kept .0 ∙ l .inv .4)
 
 same-length : tie.Need-same-length Inv-loop μ-loop
 same-length c = search needs
 
 returns : tie.Need-returns Inv-loop μ-loop
-returns c = let e : c .before .loop .a ≡ c .before .before .before .before .before .before .before .args .k = omega arith in
+returns c = let e : c .before .loop .q ≡ c .before .before .before .before .before .before .before .args .k = omega arith in
     let p = c .before .before .before .before .put in
     record { begun = p .last .0; given = p .ensures; turned = rw e at (c .before .loop .inv .3) }
 
