@@ -1,4 +1,5 @@
-/* Every call of parity.h from C, on buffers of exactly the size asked for, so that valgrind sees a step outside.
+/* Every call of parity.h from C. What is lent is exactly as large as asked for, and sheets of many sizes are read from
+ * memory of exactly their size (round_trip), so that valgrind sees a step outside.
  * Prints what failed and then `N passed, M failed`. */
 #include <parity.h>
 #include <stdio.h>
@@ -142,8 +143,47 @@ static void contradiction(void)
     CHECK(o.number == PARITY_UNSATISFIABLE && o.count == 2 && lists(s.rows, 1, 2));
     CHECK(memcmp(&s.header, &none, sizeof none) == 0);
     CHECK(s.store[0] == (uint64_t)3 << 62 && s.store[8] == 1 && s.store[9] == (uint64_t)3 << 62 && s.store[17] == 0);
-    CHECK(assume(&s, 2).number == PARITY_NOT_OPEN);
+    CHECK(s.literals[0] == 0xA5A5000000000000u && s.literals[1] == 0xA5A5000000000001u);
+    CHECK(assume(&s, 2).number == PARITY_NOT_OPEN && explain(&s, 1).number == PARITY_NOT_OPEN);
+    CHECK(back(&s, 0) == PARITY_NOT_OPEN && memcmp(&s.header, &none, sizeof none) == 0);
     leave(&s);
+}
+
+/* Written, read and written again. Each row has variables 1 and n, and none where n is 1; parities in turn. */
+static void round_trip(size_t n, size_t m)
+{
+    const size_t size = PARITY_SHEET_SIZE(n, m), count = PARITY_ROW_WORDS * m;
+    uint8_t *sheet = malloc(size), *again = malloc(size);
+    uint64_t *store = words(count), *back = words(count);
+    parity_reading read;
+    size_t r;
+    memset(store, 0, count * sizeof *store);
+    for (r = 0; r < m; r++) {
+        uint64_t *row = store + PARITY_ROW_WORDS * r;
+        row[0] ^= (uint64_t)1 << 63;
+        row[(n - 1) / 64] ^= (uint64_t)1 << (63 - (n - 1) % 64);
+        row[8] = r % 2;
+    }
+    CHECK(parity_write(n, m, store, count, sheet, size).size == size);
+    read = parity_read(sheet, size, back, count);
+    CHECK(read.number == PARITY_DONE && read.n == n && read.m == m);
+    CHECK(memcmp(store, back, count * sizeof *store) == 0);
+    CHECK(parity_write(n, m, back, count, again, size).size == size && memcmp(sheet, again, size) == 0);
+    free(sheet);
+    free(again);
+    free(store);
+    free(back);
+}
+
+static void sheets(void)
+{
+    static const size_t sizes[] = {1, 5, 6, 7, 8, 44, 45, 62, 63, 64, 65, 127, 128, 129, 511, 512};
+    size_t i;
+    for (i = 0; i < sizeof sizes / sizeof *sizes; i++) {
+        round_trip(sizes[i], 1);
+        round_trip(sizes[i], 3);
+        round_trip(sizes[i], 8);
+    }
 }
 
 static void largest_sheet(void)
@@ -340,7 +380,8 @@ static void refused_opening(void)
 static void refused_search(void)
 {
     static const parity_header bad[] = {{2, 6, 3, 3, 1},   {1, (uint64_t)1 << 63, 3, 3, 1}, {1, 513, 3, 3, 1},
-                                        {1, 6, 257, 3, 1}, {1, 6, 3, 4, 1},                 {1, 6, 3, 3, 7}};
+                                        {1, 6, 257, 3, 1}, {1, 6, 3, 4, 1},                 {1, 3, 6, 4, 1},
+                                        {1, 6, 3, 3, 7}};
     const size_t work = PARITY_WORK_WORDS;
     state s = seat(6, 3);
     size_t i;
@@ -391,6 +432,7 @@ int main(void)
 {
     settled_example();
     contradiction();
+    sheets();
     largest_sheet();
     nothing_at_all();
     refused_sheets();

@@ -27,7 +27,7 @@ enum Family {
     Foreign,
 }
 
-const FAMILIES: [(&str, Family); 17] = [
+const FAMILIES: [(&str, Family); 18] = [
     ("tiny", Family::Calls(Kind::Tiny)),
     ("sparse", Family::Calls(Kind::Sparse)),
     ("dense", Family::Calls(Kind::Dense)),
@@ -37,6 +37,7 @@ const FAMILIES: [(&str, Family); 17] = [
     ("scrambler", Family::Calls(Kind::Scrambler)),
     ("prefix", Family::Calls(Kind::Prefix)),
     ("wide", Family::Calls(Kind::Wide)),
+    ("tall", Family::Calls(Kind::Tall)),
     ("edge", Family::Calls(Kind::Edge)),
     ("damaged", Family::Damaged),
     ("refused", Family::Refused),

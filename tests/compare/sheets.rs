@@ -24,11 +24,13 @@ pub enum Kind {
     Prefix,
     /// More than 64, 128, 256 or 448 variables, sparse or dense.
     Wide,
+    /// Dense, with more than 64 rows, the last block of 64 whole or begun.
+    Tall,
     /// 0 or 512 variables, 0 or 256 rows.
     Edge,
 }
 
-pub const KINDS: [Kind; 10] = [
+pub const KINDS: [Kind; 11] = [
     Kind::Tiny,
     Kind::Sparse,
     Kind::Dense,
@@ -38,6 +40,7 @@ pub const KINDS: [Kind; 10] = [
     Kind::Scrambler,
     Kind::Prefix,
     Kind::Wide,
+    Kind::Tall,
     Kind::Edge,
 ];
 
@@ -76,6 +79,11 @@ pub fn sheet(kind: Kind, random: &mut Random) -> Sheet {
             let m = random.from(1, 64);
             let thin = random.bit();
             rows(n, m, |_| if thin { sparse(n, random) } else { half(n, random) })
+        }
+        Kind::Tall => {
+            let m = random.pick(&[65, 71, 72, 73, 127, 128, 129, 193, 255, 256]);
+            let n = (m + random.from(4, 60)).min(512);
+            rows(n, m, |_| half(n, random))
         }
         Kind::Edge => {
             let (n, m) = random.pick(&[(0, 0), (0, 1), (0, 256), (1, 256), (512, 0), (512, 1), (512, 256), (511, 255)]);

@@ -1,5 +1,6 @@
 -- THE EXPORTS: which numbers each answer of the module is given to C as, and what each call with numbers promises.
 --   readNumbers, writeNumbers, openNumbers, assumeNumbers, explainNumbers   the struct that an answer becomes: its number, its values, and 0 in a field that the number gives no meaning
+--   readN, readM, writeSize, openCount, assumeCount, explainClause, explainRows   the values in its fields
 --   ReadExport .. r ..      r is the struct of an answer that the module promises, and so are the buffers after the call; WriteExport, OpenExport, AssumeExport and ExplainExport alike
 -- Back answers a plain number: its promise is BackPromise of parity itself.
 -- Assumes nothing.

@@ -4,10 +4,11 @@
 --   paddingOf s         the bits after these, as a number
 --   rowOf n bs          the constraint whose n coefficient bits and parity bit stand at the start of bs
 --   rowsFrom, sheetRows the constraints of a sheet, numbered from 1, each read where the one before it ended
+--   wordAt, wordsOf     64 bits from a place on as a word, and so many words of the bits from their start
 --   rowWords n bs       the same row as the nine words of the row store
 --   storeWords n m bs   m such rows
 --   packed k ws         the bits of the first k words of ws
---   rowBits, sheetBits  the bits of one row of a row store, and of the whole sheet that it makes
+--   rowBits, bodyBits, sheetBits   the bits of one row of a row store, of m rows, and of the whole sheet that they make
 --   cleanRow, clean     no bit past variable n and a parity of 0 or 1, in one row and in the first m
 --   reader, writer      the checks of the two calls, in order
 -- Assumes nothing.

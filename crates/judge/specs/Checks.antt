@@ -1,6 +1,6 @@
 -- THE CHECKS OF THE CALLS ON AN OPEN STATE, in order (document 01, "Refusal numbers").
 --   unfit h                     line 11: the header is not open, or one of its numbers is past its bound
---   Fit h                       it does not: the header is open and within its bounds
+--   Fit h                       line 11 does not hold: the header is open and within its bounds
 --   assumeChecks, backChecks, explainChecks   the checks that are judged before a call looks into the working buffer
 --   atDepth h d                 the header with another depth: assume and back change nothing else of it
 -- Assumes nothing.

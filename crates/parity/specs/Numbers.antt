@@ -1,7 +1,7 @@
--- THE NUMBERS AND VALUES OF THE ANSWERS: for each case of an answer, this paper's number and what it says.
---   openNumber, assumeNumber, explainNumber   0 done; a refusal its number of the table; 100 held, 101 conflict, 102 unsatisfiable
+-- THE NUMBERS AND VALUES OF THE ANSWERS, for each case of an answer.
+--   openNumber, assumeNumber, explainNumber   a refusal has document 01's number; 0 done, 100 held, 101 conflict, 102 unsatisfiable are chosen here
 --   openSays, assumeSays, explainSays         the answer of the definitions, with its list read from the buffers as they then are
--- A refusal says nothing of the state.
+-- A refusal is no answer of the definitions; what 10 and 12 say of the state is in the promises.
 -- Assumes nothing.
 use mathlib.Core.List.{List}
 use mathlib.Core.Option.{Option, none, some}

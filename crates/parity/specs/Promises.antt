@@ -4,8 +4,9 @@
 --   nothingOpen, opensWith       the header of an unsatisfiable opening, and of one that is open
 --   Used x old new               x places of an answer buffer are used, and it keeps what it had past them
 --   Worked old new               the working buffer keeps its length, and what it had past its first 4,096 words
---   OpenLeaves ..                what an answer leaves, on every state; OpenDone, AssumeRight, ExplainRight: which answer is right
---   OpenPromise ..               a refusal changes nothing; any other answer is safe on every state, and right on a state that the module made
+--   OpenLeaves, AssumeLeaves, ExplainLeaves    what an answer that the checks let through leaves, on every state
+--   OpenDone, AssumeRight, ExplainRight        which answer is right: for a sheet, and on a state that the module made
+--   OpenPromise, AssumePromise, BackPromise, ExplainPromise   the promises: a refusal changes nothing; any other answer is safe on every state, and right on a state that the module made
 -- Assumes nothing.
 use mathlib.Core.Path.{_≡_}
 use mathlib.Core.Bool.{Bool, _||_}
