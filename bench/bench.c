@@ -24,8 +24,8 @@ static double now_us(void)
 /* ---- the contestants ---- */
 
 static sample samples[SAMPLES];
-static const sample *end; /* behind those in use */
-static const sample *now; /* the one that is worked on */
+static const sample *end;     /* behind those in use */
+static const sample *current; /* the one that is worked on */
 static parity_header header;
 static uint64_t store[PARITY_STORE_WORDS], work[PARITY_WORK_WORDS];
 static uint64_t literals[PARITY_MAX_VARIABLES], rows[PARITY_MAX_ROWS];
@@ -43,36 +43,38 @@ static void must(int fact, const char *what)
 
 static void do_read(void)
 {
-    must(parity_read(now->sheet, now->size, store, PARITY_STORE_WORDS).number == PARITY_DONE, "read refused");
+    must(parity_read(current->sheet, current->size, store, PARITY_STORE_WORDS).number == PARITY_DONE, "read refused");
 }
 
 static void do_write(void)
 {
-    must(parity_write(now->n, now->m, now->store, PARITY_STORE_WORDS, written, sizeof written).number == PARITY_DONE,
+    must(parity_write(current->n, current->m, current->store, PARITY_STORE_WORDS, written, sizeof written).number ==
+             PARITY_DONE,
          "write refused");
 }
 
 static void do_open(void)
 {
-    parity_opening o = parity_open(header, now->sheet, now->size, store, PARITY_STORE_WORDS, work, PARITY_WORK_WORDS,
-                                   literals, PARITY_MAX_VARIABLES, rows, PARITY_MAX_ROWS);
+    parity_opening o = parity_open(header, current->sheet, current->size, store, PARITY_STORE_WORDS, work,
+                                   PARITY_WORK_WORDS, literals, PARITY_MAX_VARIABLES, rows, PARITY_MAX_ROWS);
     must(o.number == PARITY_DONE, "open refused");
     header = o.header;
 }
 
 static void do_decode(void)
 {
-    plain_decode(now->sheet, now->n, now->m, store);
+    plain_decode(current->sheet, current->n, current->m, store);
 }
 
 static void do_plain(void)
 {
-    must(plain_eliminate[placement](now->store, now->m, plain_rows) > 0, "plain elimination found a contradiction");
+    must(plain_eliminate[placement](current->store, current->m, plain_rows) > 0,
+         "plain elimination found a contradiction");
 }
 
 static void do_m4ri(void)
 {
-    m4ri_open(now->sheet, now->n, now->m);
+    m4ri_open(current->sheet, current->n, current->m);
 }
 
 static void keep_best(double *best, double us)
@@ -90,7 +92,7 @@ static double take_turn(void (*contestant)(void))
         double start = now_us(), us;
         int calls = 0;
         do {
-            for (now = samples; now < end; now++, calls++)
+            for (current = samples; current < end; current++, calls++)
                 contestant();
             us = now_us() - start;
         } while (us < batch_us);
@@ -116,7 +118,7 @@ static uint64_t assume(uint64_t code)
 static void shuffle(uint64_t *seed)
 {
     size_t i;
-    for (i = 0; i < now->n; i++) {
+    for (i = 0; i < current->n; i++) {
         size_t other = random_word(seed) % (i + 1);
         offered[i] = offered[other];
         offered[other] = 2 * (i + 1) + random_word(seed) % 2;
@@ -129,7 +131,7 @@ static void rehearse(void)
     size_t i;
     takes = implies = 0;
     do_open();
-    for (i = 0; i < now->n; i++)
+    for (i = 0; i < current->n; i++)
         if (assume(offered[i]) == PARITY_DONE)
             taken[takes++] = offered[i];
         else
@@ -152,12 +154,12 @@ static double take(const uint64_t *codes, size_t count)
 
 static double take_bare(const uint64_t *codes, size_t count)
 {
-    const bare_search *bare = bare_for(now->n, now->m);
+    const bare_search *bare = bare_for(current->n, current->m);
     double start, us;
     size_t done = 0, i;
     if (bare == NULL)
         return 0;
-    bare->start(plain_rows, plain_eliminate[0](now->store, now->m, plain_rows));
+    bare->start(plain_rows, plain_eliminate[0](current->store, current->m, plain_rows));
     start = now_us();
     for (i = 0; i < count; i++)
         done += bare->assume(codes[i], literals) != BARE_HAD;
@@ -170,9 +172,11 @@ static double explain_all(void)
 {
     double start = now_us();
     size_t done = 0, i;
-    for (i = 0; i < implies; i++)
-        done += parity_explain(header, work, PARITY_WORK_WORDS, literals, PARITY_MAX_VARIABLES, rows, PARITY_MAX_ROWS,
-                               implied[i]).number == PARITY_DONE;
+    for (i = 0; i < implies; i++) {
+        parity_explaining e = parity_explain(header, work, PARITY_WORK_WORDS, literals, PARITY_MAX_VARIABLES, rows,
+                                             PARITY_MAX_ROWS, implied[i]);
+        done += e.number == PARITY_DONE;
+    }
     must(done == implies, "explain refused");
     return (now_us() - start) / (double)implies;
 }
@@ -190,11 +194,11 @@ static double go_back(void)
 static void search(double *us, uint64_t *seed)
 {
     double systems = (double)(end - samples);
-    for (now = samples; now < end; now++) {
+    for (current = samples; current < end; current++) {
         shuffle(seed);
         rehearse();
-        us[ASSUME] += take(offered, now->n) / systems;
-        us[BARE_ASSUME] += take_bare(offered, now->n) / systems;
+        us[ASSUME] += take(offered, current->n) / systems;
+        us[BARE_ASSUME] += take_bare(offered, current->n) / systems;
         us[TAKE] += take(taken, takes) / systems;
         us[BARE_TAKE] += take_bare(taken, takes) / systems;
         us[EXPLAIN] += explain_all() / systems;
@@ -206,17 +210,18 @@ static void search(double *us, uint64_t *seed)
 
 static void check_all(void)
 {
-    for (now = samples; now < end; now++) {
+    for (current = samples; current < end; current++) {
         do_open();
         do_write();
         for (placement = 0; placement < PLACEMENTS; placement++)
-            must(header.kept == plain_eliminate[placement](now->store, now->m, plain_rows), "kept counts differ");
-        must(memcmp(written, now->sheet, now->size) == 0, "the written sheet differs");
+            must(header.kept == plain_eliminate[placement](current->store, current->m, plain_rows),
+                 "kept counts differ");
+        must(memcmp(written, current->sheet, current->size) == 0, "the written sheet differs");
     }
 }
 
 /* The fewer rows, the more systems: about as many tests of rows in all, more than a processor learns by heart. */
-static size_t kinds_of(size_t m)
+static size_t systems_for(size_t m)
 {
     size_t kinds = 8 * 256 * 256 / (m * m);
     return kinds < SAMPLES ? kinds : SAMPLES;
@@ -227,7 +232,7 @@ static void run_round(timing *t)
 {
     double *us = t->us[t->rounds];
     uint64_t seed = 99 + (uint64_t)t->rounds;
-    size_t i, kinds = kinds_of(t->m);
+    size_t i, kinds = systems_for(t->m);
     end = samples + kinds;
     for (i = 0; i < kinds; i++)
         make_sample(&samples[i], t->family, t->n, t->m, 1000000 * i + 1000 * t->n + t->m);

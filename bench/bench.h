@@ -54,7 +54,19 @@ void m4ri_end(void);
 /* ---- report.c ---- */
 
 typedef enum {
-    READ, WRITE, OPEN, DECODE, PLAIN, M4RI, ASSUME, TAKE, BARE_ASSUME, BARE_TAKE, BACK, EXPLAIN, TURNS
+    READ,
+    WRITE,
+    OPEN,
+    DECODE,
+    PLAIN,
+    M4RI,
+    ASSUME,
+    TAKE,
+    BARE_ASSUME,
+    BARE_TAKE,
+    BACK,
+    EXPLAIN,
+    TURNS
 } turn_of;
 
 enum { ROUNDS = 15 };

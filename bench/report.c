@@ -121,10 +121,10 @@ static double explain_take(const double *us)
 static const struct {
     const char *name, *colour;
     double (*time)(const double *us);
-} curves[] = {{"open", "#b03060", open_us},     {"plain C", "#4060b0", plain_us}, {"M4RI", "#308050", m4ri_us},
+} curves[] = {{"open", "#b03060", open_us}, {"plain C", "#4060b0", plain_us}, {"M4RI", "#308050", m4ri_us},
               {"take", "#c07030", take_us}, {"back", "#8050a0", back_us},     {"explain", "#707070", explain_us}};
 
-enum { CURVES = 6, OF_M4RI = 2 };
+enum { CURVES = sizeof curves / sizeof *curves, OF_M4RI = 2 };
 
 /* The slope of log time over log size, by least squares: the exponent of the growth. */
 static double growth(const timing *t, double (*time)(const double *us), int over_m)
@@ -146,13 +146,12 @@ static double growth(const timing *t, double (*time)(const double *us), int over
 static const struct {
     const char *name;
     double (*of)(const double *us);
-} ratios[] = {{"open/M4RI", open_m4ri},      {"elim/plain", elim_plain},   {"read/open", read_open},
-              {"write/read", write_read},    {"assume/open", assume_open},
-              {"bare assume/open", bare_assume_open}, {"take/open", take_open},
-              {"bare take/open", bare_take_open}, {"take/bare", take_bare},
-              {"back/open", back_open}, {"explain/open", explain_open}};
+} ratios[] = {{"open/M4RI", open_m4ri},   {"elim/plain", elim_plain},         {"read/open", read_open},
+              {"write/read", write_read}, {"assume/open", assume_open},       {"bare assume/open", bare_assume_open},
+              {"take/open", take_open},   {"bare take/open", bare_take_open}, {"take/bare", take_bare},
+              {"back/open", back_open},   {"explain/open", explain_open}};
 
-enum { RATIOS = 11 };
+enum { RATIOS = sizeof ratios / sizeof *ratios };
 
 /* A number, or a dash for one that is missing. */
 static void cell(FILE *out, int width, int decimals, double number)

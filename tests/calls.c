@@ -294,8 +294,8 @@ static uint64_t open_at(state *s, const uint8_t *sheet, size_t size, size_t stor
                         size_t rows)
 {
     state c = copy(s);
-    parity_opening o = parity_open(s->header, sheet, size, s->store, store, s->work, work, s->literals, literals,
-                                   s->rows, rows);
+    parity_opening o =
+        parity_open(s->header, sheet, size, s->store, store, s->work, work, s->literals, literals, s->rows, rows);
     return unchanged(s, &c) && same_header(o.header, s->header) && o.count == 0 ? o.number : CHANGED;
 }
 
@@ -379,8 +379,9 @@ static void refused_opening(void)
 
 static void refused_search(void)
 {
-    static const parity_header bad[] = {{2, 6, 3, 3, 1},   {1, (uint64_t)1 << 63, 3, 3, 1}, {1, 513, 3, 3, 1},
-                                        {1, 6, 257, 3, 1}, {1, 6, 3, 4, 1},                 {1, 3, 6, 4, 1},
+    static const parity_header bad[] = {{2, 6, 3, 3, 1},   {1, (uint64_t)1 << 63, 3, 3, 1},
+                                        {1, 513, 3, 3, 1}, {1, 6, 257, 3, 1},
+                                        {1, 6, 3, 4, 1},   {1, 3, 6, 4, 1},
                                         {1, 6, 3, 3, 7}};
     const size_t work = PARITY_WORK_WORDS;
     state s = seat(6, 3);
