@@ -73,7 +73,7 @@ pub fn point(work: &mut [u64], p: usize, u: usize)
     work[at] = 2 * (u as u64) + x;
 }
 
-// Row r has the variable u. Row p is added into it, or u becomes its basic variable if it is row p; it then gives its basic variable a value, if it does.
+// Row r has the variable u. Row p is added into it, or u becomes its basic variable if it is row p; then row r is settled.
 fn turn_row(work: &mut [u64], p: usize, u: usize, r: usize)
     requires { ⌜ (size ≤ length (now work)) × (p < maxRows) × (r < maxRows) × (u ≤ maxVars) × (bitAt (now work) (rowAt r) (u - 1) ≡ true) ⌝ }
     ensures { λ _. ⌜ RowTurned p u r (now (work .entry)) (now (work .exit)) ⌝ }

@@ -1,7 +1,7 @@
 -- THE TEST FOR THE ONE VARIABLE OF A ROW WITHOUT A VALUE, word by word.
 --   open-word ws r j      word j of the variables of row r that have no value, as the code makes it
 --   rest-word ws r p j    the same without variable p + 1: 0 in each word where p + 1 is the only one
---   full-more, word-bad   a word that passes the test, and that each would
+--   sole-more, word-bad   a word that passes the test, and that each would
 --   overlay-none, -more   the words laid over one another; overlay-bad: they pass the first test
 -- Assumes nothing.
 use mathlib.Core.Path.{_≡_, sym, ap, ap₂, _∙_}
@@ -77,8 +77,8 @@ module _ (ws : List ℕ) (r : ℕ) where
     word-ok : (j : ℕ) → rest-word j ≡ 0 → (i : ℕ) → i / 64 ≡ j → lacks ws r i ≡ same p i
     word-ok j e i h = xor-eq _ _ (sym (rest-bit i) ∙ ap (λ (x : ℕ). bitOf (rest-word x) (63 - i % 64)) h ∙ ap (λ (x : ℕ). bitOf x (63 - i % 64)) e ∙ zero-bits (63 - i % 64))
 
-    pub full-more : (j : ℕ) → ((i : ℕ) → i < j * 64 → lacks ws r i ≡ same p i) → rest-word j ≡ 0 → (i : ℕ) → i < (j + 1) * 64 → lacks ws r i ≡ same p i
-    full-more j h e i l = go (decLt i (j * 64))
+    pub sole-more : (j : ℕ) → ((i : ℕ) → i < j * 64 → lacks ws r i ≡ same p i) → rest-word j ≡ 0 → (i : ℕ) → i < (j + 1) * 64 → lacks ws r i ≡ same p i
+    sole-more j h e i l = go (decLt i (j * 64))
       where
         go : Dec (i < j * 64) → lacks ws r i ≡ same p i
         go (yes z) = h i z

@@ -1,7 +1,7 @@
 -- HOW VARIABLES GET VALUES, on every buffer: from the record, and from rows all of whose other variables have one.
 --   lacks ws r i          row r has variable i + 1, which has no value
 --   Overlay k ws r x      each one in the word x stands where one of the first k words of row r has a variable without a value
---   Full ws r p x         whether variable p + 1 is the one variable of row r without a value
+--   Sole ws r p x         whether variable p + 1 is the one variable of row r without a value
 --   Put p b ws w          variable p + 1 has been given the value b
 --   valueAt ws r          the value that makes row r hold; Can: the row gives it to its basic variable
 --   Ready ws r x          x is that variable, or 0 where the row gives nothing
@@ -29,7 +29,7 @@ lacks ws r i = bitAt ws (rowAt r) i && not (bitAt ws knownAt i)
 abbrev pub Overlay : ℕ → List ℕ → ℕ → ℕ → Type 0
 Overlay k ws r x = (t : ℕ) → t < 64 → bitOf x (63 - t) ≡ true → (j : ℕ) × (j < k) × (lacks ws r (j * 64 + t) ≡ true)
 
-pub record Full (ws : List ℕ) (r p : ℕ) (x : Bool) : Type 0 where
+pub record Sole (ws : List ℕ) (r p : ℕ) (x : Bool) : Type 0 where
   pub yes : x ≡ true → (i : ℕ) → i < maxVars → lacks ws r i ≡ same p i
   pub no : x ≡ false → ((i : ℕ) → i < maxVars → lacks ws r i ≡ same p i) → ⊥
 

@@ -18,7 +18,7 @@ ghost use Prim.Native.Nat.{_+_, _*_, _-_, _<_, _≤_};
 ghost use lib.ListN.{length};
 ghost use Rattle.tableau.specs.Layout.{coefWords, maxVars, maxRows, maxTaken, knownAt, size};
 ghost use Rattle.tableau.specs.Buffer.{Run, Chain, Span};
-ghost use Rattle.settle.specs.Values.{Overlay, Full, Put, valueAt, Ready, RowSettled, EntrySet, Restarted, RowFollowed, Followed};
+ghost use Rattle.settle.specs.Values.{Overlay, Sole, Put, valueAt, Ready, RowSettled, EntrySet, Restarted, RowFollowed, Followed};
 
 // Variable v gets the value b.
 pub fn put(work: &mut [u64], v: usize, b: bool)
@@ -53,7 +53,7 @@ fn overlay(work: &[u64], r: usize) -> u64
 // Whether v is the one variable of row r without a value, word by word.
 fn alone(work: &[u64], r: usize, v: usize) -> bool
     requires { ⌜ (size ≤ length (now work)) × (r < maxRows) × (0 < v) × (v ≤ maxVars) ⌝ }
-    ensures { λ x. ⌜ Full (now (work .entry)) r (v - 1) x ⌝ }
+    ensures { λ x. ⌜ Sole (now (work .entry)) r (v - 1) x ⌝ }
 {
     let a = ROW * r;
     let mut j = 0;
@@ -68,9 +68,9 @@ fn alone(work: &[u64], r: usize, v: usize) -> bool
 }
 
 // Whether v is the one variable of row r without a value. Most rows have another at another place of its word, which one test tells.
-fn full(work: &[u64], r: usize, v: usize) -> bool
+fn sole(work: &[u64], r: usize, v: usize) -> bool
     requires { ⌜ (size ≤ length (now work)) × (r < maxRows) × (0 < v) × (v ≤ maxVars) ⌝ }
-    ensures { λ x. ⌜ Full (now (work .entry)) r (v - 1) x ⌝ }
+    ensures { λ x. ⌜ Sole (now (work .entry)) r (v - 1) x ⌝ }
 {
     let over = overlay(work, r);
     let mine = own(v, (v - 1) / 64);
@@ -102,10 +102,10 @@ fn ready(work: &[u64], r: usize) -> usize
         return 0;
     }
     let u = (x / 2) as usize;
-    if full(work, r, u) { u } else { 0 }
+    if sole(work, r, u) { u } else { 0 }
 }
 
-// Row r gives its basic variable a value, if it does.
+// Row r is settled: where its basic variable is its only one without a value, the row gives it one.
 pub fn settle_row(work: &mut [u64], r: usize)
     requires { ⌜ (size ≤ length (now work)) × (r < maxRows) ⌝ }
     ensures { λ _. ⌜ RowSettled r (now (work .entry)) (now (work .exit)) ⌝ }
@@ -117,7 +117,7 @@ pub fn settle_row(work: &mut [u64], r: usize)
     }
 }
 
-// Every row below k gives its basic variable a value, if it does.
+// Every row below k is settled.
 fn settle(work: &mut [u64], k: usize)
     requires { ⌜ (size ≤ length (now work)) × (k ≤ maxRows) ⌝ }
     ensures { λ _. ⌜ Chain RowSettled k (now (work .entry)) (now (work .exit)) ⌝ }
@@ -177,7 +177,7 @@ pub fn restart(work: &mut [u64], k: usize, d: usize)
     settle(work, k);
 }
 
-// Each row from q to below e, 64 at most, that has the variable v gives its basic variable a value, if it does.
+// Each row from q to below e, 64 at most, that has the variable v is settled.
 fn follow_block(work: &mut [u64], q: usize, e: usize, v: usize)
     requires { ⌜ (size ≤ length (now work)) × (q < e) × (e ≤ q + 64) × (q + 64 ≤ maxRows) × (0 < v) × (v ≤ maxVars) ⌝ }
     ensures { λ _. ⌜ Span (RowFollowed (v - 1)) q (e - q) (now (work .entry)) (now (work .exit)) ⌝ }
@@ -190,7 +190,7 @@ fn follow_block(work: &mut [u64], q: usize, e: usize, v: usize)
     }
 }
 
-// Variable v gets the value b, and each row below k that has it gives its basic variable a value, if it does.
+// Variable v gets the value b, and each row below k that has it is settled.
 pub fn follow(work: &mut [u64], k: usize, v: usize, b: bool)
     requires { ⌜ (size ≤ length (now work)) × (k ≤ maxRows) × (0 < v) × (v ≤ maxVars) ⌝ }
     ensures { λ _. ⌜ Followed k (v - 1) b (now (work .entry)) (now (work .exit)) ⌝ }

@@ -5,7 +5,7 @@
 --   entryAt                 an entry of the record; Recorded: one has been set
 --   homeAt ws v             the home of variable v, v above 0: on a state of the module its row, if it is basic (View, Homes), and of no meaning else; Homed: one has been set
 --   Added f t ws w          row f has been added into row t, which keeps its basic variable
---   Gathered ws q r p x     which rows from q to below r have variable p + 1: a digit of x each, the lowest for the last row
+--   Gathered ws q e p x     which rows from q to below e have variable p + 1: a digit of x each, the lowest for the last row
 --   Column ws q e p x       which rows from q to below e have variable p + 1: a digit of x each, the top one for row q
 --   Chain Step k ws w       the steps 0 .. k - 1 one after another; Span Step a j ws w: the j steps from a on
 -- Assumes nothing.
@@ -59,9 +59,9 @@ pub record Added (f t : ℕ) (ws w : List ℕ) : Type 0 where
   pub last : getD w (lastAt t) 0 ≡ getD ws (lastAt t) 0 / 2 * 2 + (getD ws (lastAt t) 0 % 2 + getD ws (lastAt f) 0 % 2) % 2
   pub rest : (i : ℕ) → (i < rowAt t) ⊎ (rowAt t + rowSize ≤ i) → getD w i 0 ≡ getD ws i 0
 
-pub record Gathered (ws : List ℕ) (q r p x : ℕ) : Type 0 where
-  pub low : x < 2 ^ (r - q)
-  pub digits : (i : ℕ) → q + i < r → bitOf x (r - suc (q + i)) ≡ bitAt ws (rowAt (q + i)) p
+pub record Gathered (ws : List ℕ) (q e p x : ℕ) : Type 0 where
+  pub low : x < 2 ^ (e - q)
+  pub digits : (i : ℕ) → q + i < e → bitOf x (e - suc (q + i)) ≡ bitAt ws (rowAt (q + i)) p
 
 pub record Column (ws : List ℕ) (q e p x : ℕ) : Type 0 where
   pub has : (i : ℕ) → i < 64 → q + i < e → bitOf x (63 - i) ≡ bitAt ws (rowAt (q + i)) p

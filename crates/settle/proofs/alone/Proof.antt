@@ -9,7 +9,7 @@ use denote.Ref.{now}
 use Rattle.gf2.specs.Field.{same}
 use Rattle.tableau.specs.Layout.{rowAt}
 use Rattle.settle.specs.Values.{lacks}
-use Rattle.settle.proofs.Testing.{full-more, word-bad}
+use Rattle.settle.proofs.Testing.{sole-more, word-bad}
 use Rattle.settle.proofs.alone.Statement.{statement}
 use Rattle.settle.proofs.alone.Tie as tie
 
@@ -67,7 +67,7 @@ loop-less c = search needs
 loop-again : tie.Need-loop-again Inv-loop μ-loop
 loop-again c = let a = c .before .before .before .before .before .before .before .before .args in
     let l = c .before .before .before .before .before .before .loop in
-    (omega arith, full-more (now (a .work)) (a .r) (a .v - 1) (l .j) (l .inv .1) (rw (← c .before .own .ensures, ← c .before .before .without .ensures) (c .if1 .left)))
+    (omega arith, sole-more (now (a .work)) (a .r) (a .v - 1) (l .j) (l .inv .1) (rw (← c .before .own .ensures, ← c .before .before .without .ensures) (c .if1 .left)))
 
 returns-2 : tie.Need-returns-2 Inv-loop μ-loop
 returns-2 c = record { yes = λ e i h. c .before .loop .inv .1 i (omega arith); no = λ e. absurd (true≢false e) }

@@ -24,17 +24,17 @@ returns c = record { none = λ e can. let lo = can .low in omega (arith, c .if1 
 returns-2 : tie.Need-returns-2
 returns-2 c = record { none = λ e can. let hi = can .high in omega (arith, c .if2 .taken); some = λ f. absurd (f refl) }
 
-full-requires : tie.Need-full-requires
-full-requires c κs = search needs
+sole-requires : tie.Need-sole-requires
+sole-requires c κs = search needs
 
 returns-3 : tie.Need-returns-3
 returns-3 c = record {
   none = λ e can. let lo = can .low in omega arith;
-  some = λ f. (record { low = omega (arith, c .before .before .before .if1 .left); high = omega (arith, c .before .before .if2 .left); alone = c .before .full .ensures .yes (c .if3 .taken) }, refl);
+  some = λ f. (record { low = omega (arith, c .before .before .before .if1 .left); high = omega (arith, c .before .before .if2 .left); alone = c .before .sole .ensures .yes (c .if3 .taken) }, refl);
 }
 
 returns-4 : tie.Need-returns-4
-returns-4 c = record { none = λ e can. c .before .full .ensures .no (c .if3 .left) (can .alone); some = λ f. absurd (f refl) }
+returns-4 c = record { none = λ e can. c .before .sole .ensures .no (c .if3 .left) (can .alone); some = λ f. absurd (f refl) }
 
 pub ready-spec : {M : Type 1} → statement M
 ready-spec =
@@ -46,6 +46,6 @@ ready-spec =
     shared-slice-read-x
     returns
     returns-2
-    full-requires
+    sole-requires
     returns-3
     returns-4)

@@ -1,4 +1,4 @@
--- `settle::full` meets its contract.
+-- `settle::sole` meets its contract.
 -- Assumes nothing.
 use mathlib.Core.Bool.{false≢true}
 use Prim.Native.Nat.{_-_}
@@ -7,8 +7,8 @@ use denote.Ref.{now}
 use mir.Syntax.{w64}
 use mir.Val.{Fits}
 use Rattle.settle.proofs.Testing.{overlay-bad}
-use Rattle.settle.proofs.full.Statement.{statement}
-use Rattle.settle.proofs.full.Tie as tie
+use Rattle.settle.proofs.sole.Statement.{statement}
+use Rattle.settle.proofs.sole.Tie as tie
 
 overlay-requires : tie.Need-overlay-requires
 overlay-requires c κs = search needs
@@ -36,6 +36,6 @@ alone-requires c κs = search needs
 returns-2 : tie.Need-returns-2
 returns-2 c = search needs
 
-pub full-spec : {M : Type 1} → statement M
-full-spec =
+pub sole-spec : {M : Type 1} → statement M
+sole-spec =
     tie.close (tie.spec overlay-requires sub-own own-requires without-requires returns alone-requires returns-2)
