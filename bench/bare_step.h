@@ -41,14 +41,19 @@ static inline void settle(size_t r)
         state.truth[basic / 64] |= own;
 }
 
-/* Which of the rows from q to below e, 64 at most, have the variable: the lowest bit for row q. */
+/* Which of the rows from q to below e, 64 at most, have the variable: the lowest bit for row q. Rows are read by eights,
+ * and the bits of those from e on dropped. */
 static inline uint64_t column_of(size_t q, size_t e, size_t v)
 {
     uint64_t x = 0;
-    size_t r;
-    for (r = q; r < e; r++)
-        x |= (state.rows[r].coefficients[v / 64] >> (63 - v % 64) & 1) << (r - q);
-    return x;
+    size_t r, i;
+    for (r = q; r < e; r += 8) {
+        uint64_t eight = 0;
+        for (i = 0; i < 8; i++)
+            eight |= (state.rows[r + i].coefficients[v / 64] >> (63 - v % 64) & 1) << i;
+        x |= eight << (r - q);
+    }
+    return e - q < 64 ? x & (((uint64_t)1 << (e - q)) - 1) : x;
 }
 
 /* The basic variable of row p, which has just got a value, gives way to the row's first variable without one. */
