@@ -1,8 +1,9 @@
 -- LINE 11, one condition after another: each that holds makes the header unfit, and all must fail for it to be fit.
 --   not-open, past-n, past-m, past-kept   the header is unfit
 --   by-depth, not-unfit                   the last condition decides; none holds: the header is fit
+--   is-fit                                a fit header is not unfit
 -- Assumes nothing.
-use mathlib.Core.Path.{_≡_, sym, ap}
+use mathlib.Core.Path.{_≡_, sym, ap, _∙_}
 use mathlib.Core.Bool.{Bool, true, false, not, _||_}
 use Prim.Native.Nat.{_<_, _≤_, min}
 use lib.Dec.{eqb, ltb}
@@ -45,3 +46,6 @@ not-unfit h e =
       kept = ltb-false (min (h .n) (h .m)) (h .kept) (d .0);
       depth = ltb-false (h .n) (h .depth) (d .1);
     }
+
+pub is-fit : (h : Header) → Fit h → unfit h ≡ false
+is-fit h f = sym (by-depth h (f .is-open) (f .vars) (f .rows) (f .kept)) ∙ le-ltb (h .n) (h .depth) (f .depth)
