@@ -2,6 +2,7 @@
 --   refused-or       a refusal, or none
 --   open-step ..     one call
 --   demand           any list of calls
+--   demand-stands    after any calls, the state is one that the module made for what is open
 --   counted          the numbers of a header are counted by the definitions; demand-counted: after any calls
 -- Assumes nothing.
 use mathlib.Core.Path.{_≡_, refl, sym, ap, _∙_, subst}
@@ -17,6 +18,7 @@ use Rattle.gf2.specs.Answers.{Literal, Position, AnswersOpen, AssumeAnswer, hel
 use Rattle.gf2.specs.History.{assumes, refused, after, Right, Runs, at-end}
 use Rattle.gf2.proofs.Literals.{of-range}
 use Rattle.gf2.proofs.Unique.{kept-unique}
+use Rattle.gf2.proofs.Chosen.{placed-length}
 use Rattle.format.specs.Refusals.{refusal}
 use Rattle.format.specs.Sheet.{nOf, sheetRows}
 use Rattle.format.proofs.Refusing.{never}
@@ -145,11 +147,15 @@ demand s m (then c cs) =
     let f = demand (after s (event c)) (e .1) cs in
     ((e .0, f .0), f .1)
 
+pub demand-stands : {h h′ : Header} {work work′ : List ℕ} → (h .«open» ≡ 1 → ⊥) → (cs : Calls h work h′ work′) (p : Position) → at-end none (events cs) ≡ some p → Stands h′ work′ p
+demand-stands {h′ = h′} {work′ = work′} shut cs p e = subst (Matches h′ work′) e (demand none shut cs .1)
+
 -- ---- the numbers of a header
 pub counted : (h : Header) (work : List ℕ) (p : Position) → Stands h work p → Counted h p
 counted h work p st =
     record {
       variables = sym (ap (λ (z : Position). z .n) (st .here));
+      rows = sym (placed-length (h .m) suc (st .Sheet)) ∙ sym (ap (λ (z : Position). length (z .rows)) (st .here));
       depth = sym (codes-length (h .depth) (st .var) (st .val)) ∙ sym (ap (λ (z : Position). length (z .taken)) (st .here));
       kept = λ ks k.
           let s = st .made in
@@ -158,4 +164,4 @@ counted h work p st =
     }
 
 pub demand-counted : {h h′ : Header} {work work′ : List ℕ} → (h .«open» ≡ 1 → ⊥) → (cs : Calls h work h′ work′) (p : Position) → at-end none (events cs) ≡ some p → Counted h′ p
-demand-counted {h′ = h′} {work′ = work′} shut cs p e = counted h′ work′ p (subst (Matches h′ work′) e (demand none shut cs .1))
+demand-counted {h′ = h′} {work′ = work′} shut cs p e = counted h′ work′ p (demand-stands shut cs p e)

@@ -1,9 +1,9 @@
 -- CALLS ON ONE STATE, known by their promises alone, and the events of the definitions that they are.
 --   Called h work h′ work′   one call of open, assume, back or explain took the state (h, work) to (h′, work′), and its promise holds
---   event                    the call with its answer, as demand 3 reads it
---   Counted h p              the numbers of the header are those of the position: its variables, its taken literals, its kept rows
+--   event                    the call with its answer, as demand 3 reads it; openEvent, assumeEvent, backEvent, explainEvent: of each kind of call
 --   Calls, events            any list of calls, one after another
 --   Matches h work s         the state is one that the module made for what is open; where nothing is, the header is not open
+--   Counted h p              the numbers of the header are those of the position: its variables, its rows, its taken literals, its kept rows
 -- Assumes nothing.
 use mathlib.Core.Path.{_≡_}
 use mathlib.Core.Bool.{cond}
@@ -76,5 +76,6 @@ Matches h work (some p) = Stands h work p
 
 pub record Counted (h : Header) (p : Position) : Type 0 where
   pub variables : h .n ≡ p .n
+  pub rows : h .m ≡ length (p .rows)
   pub depth : h .depth ≡ length (p .taken)
   pub kept : (ks : Rows) → Kept (p .n) (p .rows) ks → h .kept ≡ length ks
