@@ -2,3 +2,4 @@ pub mod Demand
 pub mod Determined
 pub mod Exactly
 pub mod Accepted
+pub mod AfterCalls
