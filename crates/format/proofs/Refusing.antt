@@ -1,18 +1,19 @@
 -- CHECKS IN ORDER, and checks of two conditions.
---   accepted                 no refusal: no check holds
---   without, never           no check has the number k, so no refusal has it
+--   positive, accepted       no check has the number 0, so where there is no refusal, no check holds
+--   without, never           no check that holds has the number k, so no refusal has it
 --   append-some, append-none  more checks after these: they are reached only where none of these holds
 --   either-.., none-either   one of two conditions holds; neither does
 -- Assumes nothing.
-use mathlib.Core.Path.{_≡_, refl}
-use mathlib.Core.Bool.{Bool, true, false, not, _||_, _&&_, true≢false, cond}
+use mathlib.Core.Path.{_≡_, refl, _∙_}
+use mathlib.Core.Bool.{Bool, true, false, not, _||_, _&&_, true≢false, false≢true, cond}
+use mathlib.Core.Logic.{_≢_}
 use mathlib.Core.List.{List, [], _∷_, _++_}
 use lib.Dec.{eqb, ltb}
 use Prim.Native.Nat.{ℕ, suc}
 use native.Mathlib.Omega.{arith}
-use borrow.Author.Tests.{ltb-true}
+use borrow.Author.Tests.{ltb-true, eq-eqb}
 use Rattle.gf2.specs.Lists.{All}
-use Rattle.gf2.proofs.Search.{and-both, not-true}
+use Rattle.gf2.proofs.Search.{and-both}
 use Rattle.format.specs.Refusals.{Check, refusal}
 
 -- no check has the number 0
@@ -28,18 +29,20 @@ accepted (c ∷ cs) p h = go (accepted cs (and-both (ltb 0 (c .number)) (positiv
     go rest true e f = let l = ltb-true 0 (c .number) (and-both (ltb 0 (c .number)) (positive cs) p .0) in absurd (omega arith)
     go rest false e f = (e, rest f)
 
--- no check has the number k
+-- no check that holds has the number k
 abbrev pub without : ℕ → List Check → Bool
 without k [] = true
-without k (c ∷ cs) = not (eqb (c .number) k) && without k cs
+without k (c ∷ cs) = not (eqb (c .number) k && c .holds) && without k cs
 
-pub never : (k : ℕ) (cs : List Check) → without k cs ≡ true → (j : ℕ) → refusal cs ≡ suc j → eqb (suc j) k ≡ false
+pub never : (k : ℕ) (cs : List Check) → without k cs ≡ true → (j : ℕ) → refusal cs ≡ suc j → suc j ≢ k
 never k [] p j h = absurd (omega arith)
-never k (c ∷ cs) p j h = go (never k cs (and-both (not (eqb (c .number) k)) (without k cs) p .1) j) (c .holds) h
+never k (c ∷ cs) p j h =
+    let w = and-both (not (eqb (c .number) k && c .holds)) (without k cs) p in
+    go (never k cs (w .1) j) (c .holds) (w .0) h
   where
-    go : (refusal cs ≡ suc j → eqb (suc j) k ≡ false) → (b : Bool) → cond b (c .number) (refusal cs) ≡ suc j → eqb (suc j) k ≡ false
-    go rest true e = rw (← e) (not-true (eqb (c .number) k) (and-both (not (eqb (c .number) k)) (without k cs) p .0))
-    go rest false e = rest e
+    go : (refusal cs ≡ suc j → suc j ≢ k) → (b : Bool) → not (eqb (c .number) k && b) ≡ true → cond b (c .number) (refusal cs) ≡ suc j → suc j ≢ k
+    go rest true n e = λ q. false≢true (rw (eq-eqb (c .number) k (e ∙ q)) at n)
+    go rest false n e = rest e
 
 pub append-some : (cs ds : List Check) (j : ℕ) → refusal cs ≡ suc j → refusal (cs ++ ds) ≡ suc j
 append-some [] ds j h = absurd (omega arith)

@@ -4,6 +4,7 @@
 --   Right s e   the answer is the definition's for what is open before it
 --   Runs, at-end   each answer of a run of calls is right where it is given; what is open after the run
 -- Assumes nothing.
+use mathlib.Core.Logic.{_≢_}
 use mathlib.Core.Option.{Option, none, some}
 use mathlib.Core.List.{List, [], _∷_}
 use lib.ListN.{length}
@@ -32,7 +33,8 @@ after s (unexplained v) = s
 after s (stuck l) = s
 after s (refused number) = s
 
--- 10 is given exactly if there is nothing to explain, and 12 never. When another refusal is given, and its number, is the table of document 01 and does not depend on what is open.
+-- 10 is given exactly if there is nothing to explain, 12 never, and 11 never while something is open.
+-- Which other refusal is given depends on the numbers of the call and of its header: the fields `refused` of the promises.
 abbrev pub Right : Option Position → Event → Type 0
 Right s (opens n rows answer) = AnswersOpen n rows answer
 Right none (assumes l answer) = ⊥
@@ -44,7 +46,8 @@ Right (some p) (explains v answer) = Var (p .n) v × (Unexplained p v → ⊥) �
 Right none (unexplained v) = ⊥
 Right (some p) (unexplained v) = Var (p .n) v × Unexplained p v
 Right s (stuck l) = ⊥
-Right s (refused number) = Unit {0}
+Right none (refused number) = (number ≢ 10) × (number ≢ 12)
+Right (some p) (refused number) = (number ≢ 10) × (number ≢ 11) × (number ≢ 12)
 
 abbrev pub Runs : Option Position → List Event → Type 0
 Runs s [] = Unit {0}

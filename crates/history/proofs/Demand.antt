@@ -1,5 +1,6 @@
 -- DEMAND 3, from the promises alone: after any calls, each answer is what the definitions give for what is open, and the state matches what is then open.
---   refused-or       a refusal, or none
+--   refused-or       a refusal, or none; some-one, none-some: an answer, or none
+--   refused-right    the refusals of a list of checks are right
 --   open-step ..     one call
 --   demand           any list of calls
 --   demand-stands    after any calls, the state is one that the module made for what is open
@@ -13,20 +14,22 @@ use mathlib.Core.List.{List}
 use lib.ListN.{length, take}
 use Prim.Native.Nat.{ℕ, zero, suc, _≤_}
 use native.Mathlib.Omega.{arith}
+use borrow.Author.Tests.{ne-eqb}
 use Rattle.gf2.specs.Rows.{Var}
 use Rattle.gf2.specs.Answers.{Literal, Position, AnswersOpen, AssumeAnswer, held, conflict, implied, AnswersAssume, moved, Explanation}
 use Rattle.gf2.specs.History.{assumes, refused, after, Right, Runs, at-end}
 use Rattle.gf2.proofs.Literals.{of-range}
 use Rattle.gf2.proofs.Unique.{kept-unique}
 use Rattle.gf2.proofs.Chosen.{placed-length}
-use Rattle.format.specs.Refusals.{refusal}
+use Rattle.format.specs.Refusals.{Check, refusal}
 use Rattle.format.specs.Sheet.{nOf, sheetRows}
-use Rattle.format.proofs.Refusing.{never}
+use Rattle.format.proofs.Refusing.{without, never}
 use Rattle.linear.proofs.Joined.{codes-length}
 use Rattle.linear.proofs.Taking.{kept-length}
 use Rattle.linear.proofs.Explaining.{made-kept}
 use Rattle.judge.specs.declared.Header.{Header}
-use Rattle.judge.specs.Checks.{assumeChecks, explainChecks}
+use Rattle.judge.specs.Checks.{Fit, assumeChecks, backChecks, explainChecks}
+use Rattle.judge.proofs.LineEleven.{is-fit}
 use Rattle.judge.proofs.Judged.{back-judged, assume-judged, explain-judged}
 use Rattle.parity.specs.declared.Opening.{Opening}
 use Rattle.parity.specs.declared.Opening.the-variants.{OpenRefused, Unsatisfiable, Opened}
@@ -59,6 +62,12 @@ none-some {A = A} x e = true≢false (sym (ap empty e))
 literal-of : (h : Header) (words room code : ℕ) → refusal (assumeChecks h words room code) ≡ 0 → Literal (h .n) code
 literal-of h words room code e = let j = assume-judged h words room code e in of-range (h .n) code (j .3) (let hi = j .4 in omega arith)
 
+-- where something is open, line 11 does not hold
+refused-right : (s : Option Position) (h : Header) (work : List ℕ) → Matches h work s → (cs : List Check) → without 10 cs ≡ true → without 12 cs ≡ true → (Fit h → without 11 cs ≡ true) → (c : ℕ)
+    → refusal cs ≡ suc c → Right s (refused (suc c))
+refused-right none h work m cs ten twelve eleven c e = (never 10 cs ten c e, never 12 cs twelve c e)
+refused-right (some q) h work m cs ten twelve eleven c e = (never 10 cs ten c e, never 11 cs (eleven (m .fit)) c e, never 12 cs twelve c e)
+
 -- ---- open
 open-step : (s₀ : Option Position) (h : Header) (work s store literals rows store′ literals′ rows′ : List ℕ) (answer : Opening) (h′ : Header) (work′ : List ℕ) → Matches h work s₀
     → OpenPromise h s store work literals rows h′ answer store′ work′ literals′ rows′
@@ -76,7 +85,10 @@ open-step s₀ h work s store literals rows store′ literals′ rows′ answer 
 
     go : ((c : ℕ) × (refusal (openChecks s (length store) (length work) (length literals) (length rows)) ≡ suc c)) ⊎ (refusal (openChecks s (length store) (length work) (length literals) (length rows)) ≡ 0)
         → Right s₀ (openEvent s answer (h′ .kept) literals′ rows′) × Matches h′ work′ (after s₀ (openEvent s answer (h′ .kept) literals′ rows′))
-    go (inl w) = let e = p .refused (w .0) (w .1) in rw (e .0) (tt, rw (e .1, e .3) m)
+    go (inl w) =
+        let e = p .refused (w .0) (w .1) in
+        let cs = openChecks s (length store) (length work) (length literals) (length rows) in
+        rw (e .0) (refused-right s₀ h work m cs refl refl (λ f. refl) (w .0) (w .1), rw (e .1, e .3) m)
     go (inr z) = opened-step answer (p .done z)
 
 -- ---- assume
@@ -98,14 +110,19 @@ assume-step s₀ h work code literals literals′ answer h′ work′ m p = go (
 
     go : ((c : ℕ) × (refusal (assumeChecks h (length work) (length literals) code) ≡ suc c)) ⊎ (refusal (assumeChecks h (length work) (length literals) code) ≡ 0) → (s : Option Position) → Matches h work s
         → Right s (assumeEvent code answer literals′) × Matches h′ work′ (after s (assumeEvent code answer literals′))
-    go (inl w) s m = let e = p .refused (w .0) (w .1) in rw (e .0, never 12 (assumeChecks h (length work) (length literals) code) refl (w .0) (w .1)) (tt, rw (e .1, e .2) m)
+    go (inl w) s m =
+        let e = p .refused (w .0) (w .1) in
+        let cs = assumeChecks h (length work) (length literals) code in
+        rw (e .0, ne-eqb (suc (w .0)) 12 (never 12 cs refl (w .0) (w .1))) (refused-right s h work m cs refl refl (λ f. rw (is-fit h f)) (w .0) (w .1), rw (e .1, e .2) m)
     go (inr z) none m = absurd (m (assume-judged h (length work) (length literals) code z .0 .is-open))
     go (inr z) (some q) m = right-step q m (literal-of h (length work) (length literals) code z) answer (p .right z q m)
 
 -- ---- back
 back-step : (s₀ : Option Position) (h : Header) (work : List ℕ) (depth number : ℕ) (h′ : Header) (work′ : List ℕ) → Matches h work s₀ → BackPromise h work depth number h′ work′
     → Right s₀ (backEvent depth number) × Matches h′ work′ (after s₀ (backEvent depth number))
-back-step s₀ h work depth (suc c) h′ work′ m p = let e = p .refused c refl in (tt, rw (e .0, e .1) m)
+back-step s₀ h work depth (suc c) h′ work′ m p =
+    let e = p .refused c refl in
+    (refused-right s₀ h work m (backChecks h (length work) depth) refl refl (λ f. rw (is-fit h f)) c (sym (p .answer)), rw (e .0, e .1) m)
 back-step none h work depth zero h′ work′ m p = absurd (m (back-judged h (length work) depth (sym (p .answer)) .0 .is-open))
 back-step (some q) h work depth zero h′ work′ m p = (deep, p .right refl q m)
   where
@@ -128,7 +145,10 @@ explain-step s₀ h work v clause rows clause′ rows′ answer m p = go (refuse
 
     go : ((c : ℕ) × (refusal (explainChecks h (length work) (length clause) (length rows) v) ≡ suc c)) ⊎ (refusal (explainChecks h (length work) (length clause) (length rows) v) ≡ 0) → (s : Option Position) → Matches h work s
         → Right s (explainEvent v answer clause′ rows′) × Matches h work (after s (explainEvent v answer clause′ rows′))
-    go (inl w) s m = let e = p .refused (w .0) (w .1) in rw (e .0, never 10 (explainChecks h (length work) (length clause) (length rows) v) refl (w .0) (w .1)) (tt, m)
+    go (inl w) s m =
+        let e = p .refused (w .0) (w .1) in
+        let cs = explainChecks h (length work) (length clause) (length rows) v in
+        rw (e .0, ne-eqb (suc (w .0)) 10 (never 10 cs refl (w .0) (w .1))) (refused-right s h work m cs refl refl (λ f. rw (is-fit h f)) (w .0) (w .1), m)
     go (inr z) none m = absurd (m (explain-judged h (length work) (length clause) (length rows) v z .0 .is-open))
     go (inr z) (some q) m = right-step q m (explain-judged h (length work) (length clause) (length rows) v z .4) answer (p .leaves z) (p .right z q m)
 

@@ -118,7 +118,7 @@ meets none (explains v answer) = false
 meets (some p) (explains v answer) = fits p && (in-range (p .n) v && (untaken v p && same-explain (explain-answer p v) (answer .clause) (answer .numbers)))
 meets s (unexplained v) = false
 meets s (stuck l) = false
-meets s (refused number) = true
+meets s (refused number) = false
 
 unfoldable runs : Option Position → List Event → Bool
 runs s [] = true
@@ -164,7 +164,7 @@ meets-right (some p) (explains v answer) g h =
     refusal p v f g (inr w) = g w
 meets-right s (unexplained v) g h = absurd (false≢true h)
 meets-right s (stuck l) g h = absurd (false≢true h)
-meets-right s (refused number) g h = tt
+meets-right s (refused number) g h = absurd (false≢true h)
 
 runs-right : (s : Option Position) (es : List Event) → Good s → runs s es ≡ true → Runs s es
 unfolding runs
