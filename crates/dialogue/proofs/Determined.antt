@@ -15,7 +15,7 @@ use Rattle.parity.specs.Promises.{Stands, nothingOpen}
 use Rattle.history.proofs.Determined.{open-determined, back-determined, AssumeRefusal, assume-determined, ExplainRefusal, explain-determined}
 use Rattle.dialogue.specs.declared.Step.{Step}
 use Rattle.dialogue.specs.Dialogue.{saidOpening, saidAssuming, saidBacking, saidExplaining, goesOn}
-use Rattle.dialogue.specs.Steps.{Begins, Assumes, Backs, Explains, Turns, ends, assumes, backs, explains}
+use Rattle.dialogue.specs.Steps.{Begins, AssumeStep, BackStep, ExplainStep, Turns, ends, assumes, backs, explains}
 
 -- two lines that say the same
 line-same : {line line₁ line₂ : List ℕ} {a b : Said} {i j : ℕ} → a ≡ b → Put line 0 (text a) line₁ i → Put line 0 (text b) line₂ j → (line₁ ≡ line₂) × (i ≡ j)
@@ -38,21 +38,21 @@ begin-same s store work literals rows line {r} {r′} {store₁} {store₂} {wor
 
 -- ---- a command
 assume-same : (h : Header) (work literals line : List ℕ) (code : ℕ) → (AssumeRefusal h work literals code ≡ 0 → (p : Position) × Stands h work p) → {r r′ : Step} {work₁ work₂ literals₁ literals₂ line₁ line₂ : List ℕ}
-    → Assumes h work literals line code r work₁ literals₁ line₁ → Assumes h work literals line code r′ work₂ literals₂ line₂ → (r ≡ r′) × (literals₁ ≡ literals₂) × (line₁ ≡ line₂)
+    → AssumeStep h work literals line code r work₁ literals₁ line₁ → AssumeStep h work literals line code r′ work₂ literals₂ line₂ → (r ≡ r′) × (literals₁ ≡ literals₂) × (line₁ ≡ line₂)
 assume-same h work literals line code made {r} {r′} {work₁} {work₂} {literals₁} {literals₂} p q =
     let d = assume-determined h work literals code made (r .header) (r′ .header) (p .answer) (q .answer) work₁ work₂ literals₁ literals₂ (p .promise) (q .promise) in
     let l = line-same (ap₂ saidAssuming (d .answer) (d .listed)) (p .says) (q .says) in
     (step-same r r′ (d .header) (l .1) (p .more ∙ sym (q .more)), d .listed, l .0)
 
 back-same : (h : Header) (work line : List ℕ) (depth : ℕ) {r r′ : Step} {work₁ work₂ line₁ line₂ : List ℕ}
-    → Backs h work line depth r work₁ line₁ → Backs h work line depth r′ work₂ line₂ → (r ≡ r′) × (line₁ ≡ line₂)
+    → BackStep h work line depth r work₁ line₁ → BackStep h work line depth r′ work₂ line₂ → (r ≡ r′) × (line₁ ≡ line₂)
 back-same h work line depth {r} {r′} {work₁} {work₂} p q =
     let d = back-determined h work depth (p .number) (q .number) (r .header) (r′ .header) work₁ work₂ (p .promise) (q .promise) in
     let l = line-same (ap₂ saidBacking (d .0) (ap (λ (k : Header). k .depth) (d .1))) (p .says) (q .says) in
     (step-same r r′ (d .1) (l .1) (p .more ∙ sym (q .more)), l .0)
 
 explain-same : (h : Header) (work literals rows line : List ℕ) (v : ℕ) → (ExplainRefusal h work literals rows v ≡ 0 → (p : Position) × Stands h work p) → {r r′ : Step} {literals₁ literals₂ rows₁ rows₂ line₁ line₂ : List ℕ}
-    → Explains h work literals rows line v r literals₁ rows₁ line₁ → Explains h work literals rows line v r′ literals₂ rows₂ line₂
+    → ExplainStep h work literals rows line v r literals₁ rows₁ line₁ → ExplainStep h work literals rows line v r′ literals₂ rows₂ line₂
     → (r ≡ r′) × (literals₁ ≡ literals₂) × (rows₁ ≡ rows₂) × (line₁ ≡ line₂)
 explain-same h work literals rows line v made {r} {r′} {literals₁} {literals₂} {rows₁} {rows₂} p q =
     let d = explain-determined h work literals rows v made (p .answer) (q .answer) literals₁ literals₂ rows₁ rows₂ (p .promise) (q .promise) in

@@ -2,7 +2,7 @@
 --   room                    so many bytes hold any line
 --   OpeningFits, AssumingFits, ExplainingFits   the lists of an answer lie within their buffers, and its line within the room
 --   Begins                  the opening, on bytes that are taken for the sheet
---   Assumes, Backs, Explains   a command other than 0
+--   AssumeStep, BackStep, ExplainStep   a command other than 0
 --   Turns                   any command
 -- Assumes nothing.
 use mathlib.Core.Path.{_≡_}
@@ -50,19 +50,19 @@ pub record Begins (s store work literals rows line : List ℕ) (step : Step) (st
   pub says : Put line 0 (text (saidOpening answer (step .header .kept) literals′ rows′)) line′ (step .end)
   pub more : step .more ≡ goesOn answer
 
-pub record Assumes (h : Header) (work literals line : List ℕ) (code : ℕ) (step : Step) (work′ literals′ line′ : List ℕ) : Type 0 where
+pub record AssumeStep (h : Header) (work literals line : List ℕ) (code : ℕ) (step : Step) (work′ literals′ line′ : List ℕ) : Type 0 where
   pub answer : Assuming
   pub promise : AssumePromise h work literals code (step .header) answer work′ literals′
   pub says : Put line 0 (text (saidAssuming answer literals′)) line′ (step .end)
   pub more : step .more ≡ true
 
-pub record Backs (h : Header) (work line : List ℕ) (depth : ℕ) (step : Step) (work′ line′ : List ℕ) : Type 0 where
+pub record BackStep (h : Header) (work line : List ℕ) (depth : ℕ) (step : Step) (work′ line′ : List ℕ) : Type 0 where
   pub number : ℕ
   pub promise : BackPromise h work depth number (step .header) work′
   pub says : Put line 0 (text (saidBacking number (step .header .depth))) line′ (step .end)
   pub more : step .more ≡ true
 
-pub record Explains (h : Header) (work literals rows line : List ℕ) (variable : ℕ) (step : Step) (literals′ rows′ line′ : List ℕ) : Type 0 where
+pub record ExplainStep (h : Header) (work literals rows line : List ℕ) (variable : ℕ) (step : Step) (literals′ rows′ line′ : List ℕ) : Type 0 where
   pub answer : Explaining
   pub promise : ExplainPromise h work literals rows variable answer literals′ rows′
   pub same : step .header ≡ h
@@ -72,9 +72,9 @@ pub record Explains (h : Header) (work literals rows line : List ℕ) (variable 
 -- the leading two bits of the command say which it is, the other fourteen its number
 pub data Turns (h : Header) (work literals rows line : List ℕ) (command : ℕ) : Step → List ℕ → List ℕ → List ℕ → List ℕ → Type 0 where
   ends : command / 16384 ≡ 0 → Turns h work literals rows line command (record { header = h; end = 0; more = false }) work literals rows line
-  assumes : {step : Step} {work′ literals′ line′ : List ℕ} → command / 16384 ≡ 1 → Assumes h work literals line (command % 16384) step work′ literals′ line′
+  assumes : {step : Step} {work′ literals′ line′ : List ℕ} → command / 16384 ≡ 1 → AssumeStep h work literals line (command % 16384) step work′ literals′ line′
       → Turns h work literals rows line command step work′ literals′ rows line′
-  backs : {step : Step} {work′ line′ : List ℕ} → command / 16384 ≡ 2 → Backs h work line (command % 16384) step work′ line′
+  backs : {step : Step} {work′ line′ : List ℕ} → command / 16384 ≡ 2 → BackStep h work line (command % 16384) step work′ line′
       → Turns h work literals rows line command step work′ literals rows line′
-  explains : {step : Step} {literals′ rows′ line′ : List ℕ} → command / 16384 ≡ 3 → Explains h work literals rows line (command % 16384) step literals′ rows′ line′
+  explains : {step : Step} {literals′ rows′ line′ : List ℕ} → command / 16384 ≡ 3 → ExplainStep h work literals rows line (command % 16384) step literals′ rows′ line′
       → Turns h work literals rows line command step work literals′ rows′ line′

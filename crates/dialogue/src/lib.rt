@@ -5,7 +5,7 @@ ghost use Prim.Native.Nat.{_≤_};
 ghost use lib.ListN.{length};
 ghost use Rattle.lines.specs.Lines.{Put, text};
 ghost use Rattle.dialogue.specs.Dialogue.{sheetEnd, commandOf, saidOpening, saidAssuming, saidBacking, saidExplaining, goesOn};
-ghost use Rattle.dialogue.specs.Steps.{room, OpeningFits, AssumingFits, ExplainingFits, Begins, Assumes, Backs, Explains, Turns};
+ghost use Rattle.dialogue.specs.Steps.{room, OpeningFits, AssumingFits, ExplainingFits, Begins, AssumeStep, BackStep, ExplainStep, Turns};
 use judge::Header;
 use parity::Assuming;
 use parity::Explaining;
@@ -141,7 +141,7 @@ pub fn begin(
 
 fn assume(h: Header, work: &mut [u64], literals: &mut [u64], line: &mut [u8], code: usize) -> Step
     requires { ⌜ room ≤ length (now line) ⌝ }
-    ensures { λ r. ⌜ Assumes h (now (work .entry)) (now (literals .entry)) (now (line .entry)) code r (now (work .exit)) (now (literals .exit)) (now (line .exit)) ⌝ }
+    ensures { λ r. ⌜ AssumeStep h (now (work .entry)) (now (literals .entry)) (now (line .entry)) code r (now (work .exit)) (now (literals .exit)) (now (line .exit)) ⌝ }
 {
     let out = parity::assume(h, work, literals, code);
     let header = out.header;
@@ -156,7 +156,7 @@ fn assume(h: Header, work: &mut [u64], literals: &mut [u64], line: &mut [u8], co
 
 fn back(h: Header, work: &mut [u64], line: &mut [u8], depth: usize) -> Step
     requires { ⌜ room ≤ length (now line) ⌝ }
-    ensures { λ r. ⌜ Backs h (now (work .entry)) (now (line .entry)) depth r (now (work .exit)) (now (line .exit)) ⌝ }
+    ensures { λ r. ⌜ BackStep h (now (work .entry)) (now (line .entry)) depth r (now (work .exit)) (now (line .exit)) ⌝ }
 {
     let out = parity::back_core(h, work, depth);
     let header = out.header;
@@ -177,7 +177,7 @@ fn explain(
     variable: usize,
 ) -> Step
     requires { ⌜ room ≤ length (now line) ⌝ }
-    ensures { λ r. ⌜ Explains h (now (work .entry)) (now (literals .entry)) (now (rows .entry)) (now (line .entry)) variable r
+    ensures { λ r. ⌜ ExplainStep h (now (work .entry)) (now (literals .entry)) (now (rows .entry)) (now (line .entry)) variable r
         (now (literals .exit)) (now (rows .exit)) (now (line .exit)) ⌝ }
 {
     let answer = parity::explain(h, work, literals, rows, variable);
