@@ -4,12 +4,14 @@ ghost use Prim.Native.Nat.{_+_, _-_, _*_, _/_, _%_, _^_, _≤_, _<_, min};
 ghost use lib.ListN.{length, take, drop};
 ghost use Rattle.format.specs.Bits.{bitsOf, bitsN, valueOf, putAt};
 
+// The smaller of two numbers.
 pub fn shorter(a: usize, b: usize) -> usize
     ensures { λ r. ⌜ r ≡ min a b ⌝ }
 {
     if a < b { a } else { b }
 }
 
+// A byte as a word.
 fn wide(b: u8) -> u64
     ensures { λ r. ⌜ r ≡ b ⌝ }
 {
@@ -92,6 +94,7 @@ pub fn window(s: &[u8], q: usize, off: usize) -> u64
     (w << off) | (b >> (8 - off))
 }
 
+// The lowest eight bits of v.
 fn low_byte(v: u64) -> u8
     ensures { λ r. ⌜ r ≡ v % 2 ^ 8 ⌝ }
 {

@@ -41,6 +41,7 @@ pub fn command(high: u8, low: u8) -> u16
 
 // ---- the line of an answer
 
+// The line of an opening stands at the start of `line`; where it ends.
 fn line_of_opening(
     line: &mut [u8],
     a: Opening,
@@ -58,6 +59,7 @@ fn line_of_opening(
     }
 }
 
+// The line of an assume stands at the start of `line`; where it ends.
 fn line_of_assuming(line: &mut [u8], a: Assuming, literals: &[u64]) -> usize
     requires { ⌜ (room ≤ length (now line)) × AssumingFits a (now literals) ⌝ }
     ensures { λ r. ⌜ Put (now (line .entry)) 0 (text (saidAssuming a (now (literals .entry)))) (now (line .exit)) r ⌝ }
@@ -70,6 +72,7 @@ fn line_of_assuming(line: &mut [u8], a: Assuming, literals: &[u64]) -> usize
     }
 }
 
+// The line of a back, which answered `number`, stands at the start of `line`; where it ends.
 fn line_of_backing(line: &mut [u8], number: u64, depth: usize) -> usize
     requires { ⌜ room ≤ length (now line) ⌝ }
     ensures { λ r. ⌜ Put (now (line .entry)) 0 (text (saidBacking number depth)) (now (line .exit)) r ⌝ }
@@ -80,6 +83,7 @@ fn line_of_backing(line: &mut [u8], number: u64, depth: usize) -> usize
     }
 }
 
+// The line of an explain of `variable` stands at the start of `line`; where it ends.
 fn line_of_explaining(
     line: &mut [u8],
     a: Explaining,
@@ -139,6 +143,7 @@ pub fn begin(
     Step { header, end, more }
 }
 
+// An assume of the literal `code` and its line, after which the session goes on.
 fn assume(h: Header, work: &mut [u64], literals: &mut [u64], line: &mut [u8], code: usize) -> Step
     requires { ⌜ room ≤ length (now line) ⌝ }
     ensures { λ r. ⌜ AssumeStep h (now (work .entry)) (now (literals .entry)) (now (line .entry)) code r (now (work .exit)) (now (literals .exit)) (now (line .exit)) ⌝ }
@@ -154,6 +159,7 @@ fn assume(h: Header, work: &mut [u64], literals: &mut [u64], line: &mut [u8], co
     }
 }
 
+// A back to `depth` and its line, after which the session goes on.
 fn back(h: Header, work: &mut [u64], line: &mut [u8], depth: usize) -> Step
     requires { ⌜ room ≤ length (now line) ⌝ }
     ensures { λ r. ⌜ BackStep h (now (work .entry)) (now (line .entry)) depth r (now (work .exit)) (now (line .exit)) ⌝ }
@@ -168,6 +174,7 @@ fn back(h: Header, work: &mut [u64], line: &mut [u8], depth: usize) -> Step
     }
 }
 
+// An explain of `variable` and its line, after which the session goes on with the header that it had.
 fn explain(
     h: Header,
     work: &[u64],

@@ -7,6 +7,7 @@ ghost use Prim.Native.Nat.{_+_, _*_, _≤_};
 ghost use lib.ListN.{length, take};
 ghost use Rattle.lines.specs.Lines.{Put, dec, spaced, line, text, Said};
 
+// The bytes stand from place `at` on; where they end.
 fn put_bytes(out: &mut [u8], at: usize, bytes: &[u8]) -> usize
     requires { ⌜ at + length (now bytes) ≤ length (now out) ⌝ }
     ensures { λ r. ⌜ Put (now (out .entry)) at (now (bytes .entry)) (now (out .exit)) r ⌝ }

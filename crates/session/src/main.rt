@@ -33,7 +33,7 @@ fn commands(
     }
 }
 
-// A row store, an answer buffer and a line buffer that no sheet and no answer is too long for.
+// The session on input `s`, with buffers large enough for every sheet and every answer.
 fn run(s: &[u8]) {
     let mut store = [0u64; 2304];
     let mut work = [0u64; 4096];
@@ -64,6 +64,7 @@ fn run(s: &[u8]) {
     }
 }
 
+// The session on what standard input gives, at most 65,536 bytes of it.
 fn main() {
     let mut input = io::large_buffer();
     let n = io::read_full(STDIN_FILENO, &mut input);

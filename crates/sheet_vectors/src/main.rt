@@ -10,6 +10,7 @@ use sheet::Writing;
 
 // ---- reading
 
+// The number that the reader refuses with, 0 where it read.
 fn number_read(r: Reading) -> u8
     ensures { λ k. ⌜ k ≡ readers.number r ⌝ }
 {
@@ -61,6 +62,7 @@ fn largest() {
 
 // ---- writing
 
+// The number that the writer refuses with, 0 where it wrote.
 fn number_written(r: Writing) -> u8
     ensures { λ k. ⌜ k ≡ writers.number r ⌝ }
 {
@@ -99,6 +101,7 @@ fn buffers() {
     writes(3, 2, 0, 0, 18, 3, 7);
 }
 
+// Every boundary value, of the reader and of the writer.
 fn main() {
     sizes();
     padding();
