@@ -10,7 +10,9 @@ ghost use Rattle.capi.specs.Exports.{ReadExport, WriteExport, OpenExport
 
 // The numbers of answers that are neither 0, done, nor a refusal.
 const HELD: u64 = 100;
+
 const CONFLICT: u64 = 101;
+
 const UNSATISFIABLE: u64 = 102;
 
 // What reading answers: n and m of the sheet.

@@ -32,7 +32,7 @@ another : (b : Bool) (k r : ℕ) → cond b k r ≡ 4 → (k ≡ 4 → ⊥) → 
 another true k r e ne = absurd (ne e)
 another false k r e ne = (refl, e)
 
-fourth : (a b c : Bool) → cond a 4 (cond b 5 (cond c 6 0)) ≡ 4 → a ≡ true
+fourth : (a b c : Bool) → _≡_ {A = ℕ} (cond a 4 (cond b 5 (cond c 6 0))) 4 → a ≡ true
 fourth true b c e = refl
 fourth false true c e = absurd (omega arith)
 fourth false false true e = absurd (omega arith)
