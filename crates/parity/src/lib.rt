@@ -181,7 +181,8 @@ pub fn assume(h: Header, work: &mut [u64], literals: &mut [u64], code: usize) ->
         };
     }
     let n = h.n;
-    let old = tableau::copy_known(work);
+    // Which variables have a value before.
+    let old = tableau::words_at(work, KNOWN);
     let x = exchange::step(&mut work[..SIZE], h.kept, n, h.depth, code);
     match x {
         Offer::Held => AssumeOut {

@@ -7,9 +7,9 @@ use tableau::ROW;
 use tableau::TRUTH;
 use tableau::block_end;
 use tableau::column;
-use tableau::copy_truth;
 use tableau::entry;
 use tableau::load;
+use tableau::words_at;
 use words::odd;
 use words::own;
 use words::without;
@@ -85,7 +85,7 @@ fn value(work: &[u64], r: usize) -> bool
     requires { ⌜ (size ≤ length (now work)) × (r < maxRows) ⌝ }
     ensures { λ x. ⌜ x ≡ valueAt (now (work .entry)) r ⌝ }
 {
-    let b = odd(load(work, r), copy_truth(work));
+    let b = odd(load(work, r), words_at(work, TRUTH));
     if work[ROW * r + LAST] % 2 == 1 { !b } else { b }
 }
 

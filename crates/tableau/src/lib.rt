@@ -4,7 +4,7 @@ use words::sum_from;
 ghost use mathlib.Core.Path.{_≡_};
 ghost use Prim.Native.Nat.{_+_, _*_, _-_, _<_, _≤_, min};
 ghost use lib.ListN.{length, getD};
-ghost use Rattle.tableau.specs.Layout.{coefWords, fromWords, maxVars, maxRows, maxTaken, rowAt, fromAt, knownAt, truthAt, homeStep, size};
+ghost use Rattle.tableau.specs.Layout.{coefWords, fromWords, maxVars, maxRows, maxTaken, rowAt, fromAt, homeStep, size};
 ghost use Rattle.tableau.specs.Buffer.{Run, Slice, Added, entryAt, homeAt, Recorded, Homed, Gathered, Column};
 
 // The most variables.
@@ -138,22 +138,6 @@ pub fn set_home(work: &mut [u64], v: usize, r: usize)
     let at = RECORD + (v - 1);
     let x = work[at];
     work[at] = x % HOME_STEP + HOME_STEP * (r as u64);
-}
-
-// Which variables have a value.
-pub fn copy_known(work: &[u64]) -> [u64; 8]
-    requires { ⌜ size ≤ length (now work) ⌝ }
-    ensures { λ x. ⌜ Slice coefWords (now (work .entry)) knownAt x ⌝ }
-{
-    words_at(work, KNOWN)
-}
-
-// Which variables are true.
-pub fn copy_truth(work: &[u64]) -> [u64; 8]
-    requires { ⌜ size ≤ length (now work) ⌝ }
-    ensures { λ x. ⌜ Slice coefWords (now (work .entry)) truthAt x ⌝ }
-{
-    words_at(work, TRUTH)
 }
 
 // Where the block of rows that begins at q ends: at q + 64, or at k if that comes first.

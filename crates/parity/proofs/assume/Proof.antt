@@ -27,8 +27,8 @@ judge-assume-requires c κs = search needs
 returns : tie.Need-returns
 returns c = let a = c .before .before .before .before .args in promise-refused (a .h) (a .work .now) (a .literals .now) (a .code) (c .before .judge-assume .result) (c .before .judge-assume .ensures) (c .if1 .taken)
 
-copy-known-requires : tie.Need-copy-known-requires
-copy-known-requires c κs = judged (c .before) .1
+words-at-requires : tie.Need-words-at-requires
+words-at-requires c κs = let l = judged (c .before) .1 in omega arith
 
 slice-relend-prefix-step : tie.Need-slice-relend-prefix-step
 slice-relend-prefix-step c = judged (c .before .before) .1
@@ -113,7 +113,7 @@ returns-4 c = let i = c .before .before .before .before in
     let a = e .before .before .before .before .args in
     let k = o .before .before in
     rw (c .at-depth .ensures)
-    (promise-taken (a .h) (a .work .now) (a .literals .now) (a .code) (passed e) (o .step .last .0) (rw (t .enum-told3 .given .1) at (o .step .ensures)) (k .copy-known .result) (k .copy-known .ensures) (o .step .kept .0)
+    (promise-taken (a .h) (a .work .now) (a .literals .now) (a .code) (passed e) (o .step .last .0) (rw (t .enum-told3 .given .1) at (o .step .ensures)) (k .words-at .result) (k .words-at .ensures) (o .step .kept .0)
     (i .list-new .last .1 .1 .1 .1 .0) (i .list-new .result) (i .list-new .ensures))
 
 same-length-5 : tie.Need-same-length-5
@@ -131,7 +131,7 @@ assume-spec =
     (tie.spec
     judge-assume-requires
     returns
-    copy-known-requires
+    words-at-requires
     slice-relend-prefix-step
     slice-aggregate-step
     step-requires

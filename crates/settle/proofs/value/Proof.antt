@@ -14,13 +14,13 @@ use Rattle.settle.proofs.value.Statement.{statement}
 use Rattle.settle.proofs.value.Tie as tie
 
 sum : (c : tie.After-odd) → c .odd .result ≡ xsum maxVars (λ i. bitAt (c .before .before .before .before .args .work .now) (rowAt (c .before .before .before .before .args .r)) i && bitAt (c .before .before .before .before .args .work .now) truthAt i)
-sum c = c .odd .ensures ∙ slice-sum 8 (rowAt (c .before .before .before .before .args .r)) truthAt (c .before .before .before .before .args .work .now) _ _ (c .before .before .load .ensures) (c .before .copy-truth .ensures)
+sum c = c .odd .ensures ∙ slice-sum 8 (rowAt (c .before .before .before .before .args .r)) truthAt (c .before .before .before .before .args .work .now) _ _ (c .before .before .load .ensures) (c .before .words-at .ensures)
 
 load-requires : tie.Need-load-requires
 load-requires c κs = search needs
 
-copy-truth-requires : tie.Need-copy-truth-requires
-copy-truth-requires c κs = search needs
+words-at-requires : tie.Need-words-at-requires
+words-at-requires c κs = search needs
 
 odd-requires : tie.Need-odd-requires
 odd-requires c κs = search needs
@@ -52,7 +52,7 @@ value-spec =
     tie.close
     (tie.spec
     load-requires
-    copy-truth-requires
+    words-at-requires
     odd-requires
     mul-if1
     add-if1
