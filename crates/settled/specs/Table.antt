@@ -13,7 +13,7 @@ use Prim.Native.Nat.{ℕ, zero, suc}
 use Rattle.gf2.specs.Field.{_⊕_, same}
 use Rattle.gf2.specs.Rows.{Row, Numbered, Rows}
 use Rattle.gf2.specs.Answers.{Position, OpenAnswer, unsatisfiable, opened, held, conflict, implied, ExplainAnswer}
-use Rattle.gf2.specs.History.{Event, opens, assumes, backs, explains}
+use Rattle.gf2.specs.History.{Event, opens, assumes, backs, explains, stuck, refused}
 use Rattle.format.specs.Sheet.{nOf, sheetRows}
 
 -- a repeated variable cancels
@@ -130,6 +130,9 @@ mistakes =
     ∷ mistake 6 B (8 ∷ 2 ∷ []) (explains 6 (because (12 ∷ 9 ∷ 3 ∷ []) (1 ∷ [])))
     -- a value that only a dropped assumption implied
     ∷ mistake 6 B (2 ∷ []) (assumes 12 held)
+    -- what is open refused as not open; no exchange found
+    ∷ mistake 6 B (2 ∷ []) (refused 11)
+    ∷ mistake 6 B (2 ∷ []) (stuck 8)
     ∷ []
 
 -- Two rows equal in variables 1 to 64, one having 65 and the other 66, opposite parities.
