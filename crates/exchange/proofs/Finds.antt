@@ -1,5 +1,5 @@
 -- A VARIABLE THAT NO ROW IS FOUND FOR is not basic, where each row is the home of its basic variable.
---   found-none    the home of the variable is no row in which it is basic
+--   found-none    where `find` gives k, the variable is basic in no row below k
 -- Assumes nothing.
 use mathlib.Core.Path.{_≡_, refl, sym, ap, _∙_}
 use mathlib.Core.List.{List}

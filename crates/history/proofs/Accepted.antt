@@ -1,4 +1,4 @@
--- A STATE OF THE MODULE IS NOT REFUSED: which calls on it are, exactly.
+-- WHICH CALLS ON A STATE OF THE MODULE THE CHECKS LET THROUGH, exactly. Explain's 10 comes after them.
 --   assume-accepted    assume: there is room for the literals, and the code is a literal of the position
 --   back-accepted      back: so many literals are taken
 --   explain-accepted   explain: there is room for the clause and the row numbers, and the variable is one of the position

@@ -1,7 +1,7 @@
--- DEMAND 2 AFTER ANY CALLS, from the promises alone: which answer a call gets that has room and a number in range, exactly.
---   assume-after    held, conflict, taken
---   explain-after   refused with 10
---   back-after      not refused
+-- AFTER ANY CALLS from a header that is not open, where something is open, from the promises alone.
+--   assume-after    with room and a literal in range: held, conflict and taken exactly as demand 2 says
+--   explain-after   with room and a variable in range: refused with 10 exactly if there is nothing to explain
+--   back-after      not refused exactly if so many literals are taken
 -- Assumes nothing.
 use mathlib.Core.Path.{_≡_, sym, subst}
 use mathlib.Core.Logic.{_↔_}
