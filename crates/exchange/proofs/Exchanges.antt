@@ -24,7 +24,7 @@ use Rattle.linear.proofs.Exchange.{at-or-not, repoint-at, repoint-other}
 use Rattle.words.specs.Words.{digit, bitAt}
 use Rattle.words.proofs.Bits.{bit-same, bit-added}
 use Rattle.tableau.specs.Buffer.{basicAt, homeAt, parityAt, Added, Chain}
-use Rattle.tableau.specs.Layout.{maxVars, maxRows, rowAt, lastAt, knownAt, size}
+use Rattle.tableau.specs.Layout.{maxVars, maxRows, rowBits, rowAt, lastAt, knownAt, size}
 use Rattle.tableau.specs.View.{RowsRead, Homes}
 use Rattle.tableau.proofs.Reading.{home-stay, prov-bit, digit-sum, basic-kept}
 use Rattle.exchange.specs.Steps.{RowCleared, Exchanged}
@@ -35,7 +35,7 @@ module _ (n k : ℕ) (ws : List ℕ) (R : ℕ → Row) (β : ℕ → ℕ) (S : �
   adds q = not (same q p) && R q u
 
   pub record Clearing (r : ℕ) (w : List ℕ) : Type 0 where
-    pub done : (q : ℕ) → q < r → (i : ℕ) → i < 768 → bitAt w (rowAt q) i ≡ bitAt ws (rowAt q) i ⊕ (adds q && bitAt ws (rowAt p) i)
+    pub done : (q : ℕ) → q < r → (i : ℕ) → i < rowBits → bitAt w (rowAt q) i ≡ bitAt ws (rowAt q) i ⊕ (adds q && bitAt ws (rowAt p) i)
     pub parity : (q : ℕ) → q < r → parityAt w q ≡ parityAt ws q ⊕ (adds q && parityAt ws p)
     pub basic : (q : ℕ) → q < r → basicAt w q ≡ basicAt ws q
     pub todo : (i : ℕ) → rowAt r ≤ i → getD w i 0 ≡ getD ws i 0
@@ -48,7 +48,7 @@ module _ (n k : ℕ) (ws : List ℕ) (R : ℕ → Row) (β : ℕ → ℕ) (S : �
 
   module _ (r : ℕ) (lr : r < k) (w w′ : List ℕ) (st : Clearing r w) where
     -- row p is as it was
-    pivot-bit : (i : ℕ) → i < 768 → bitAt w (rowAt p) i ≡ bitAt ws (rowAt p) i
+    pivot-bit : (i : ℕ) → i < rowBits → bitAt w (rowAt p) i ≡ bitAt ws (rowAt p) i
     pivot-bit i l = go (decLt p r)
       where
         go : Dec (p < r) → bitAt w (rowAt p) i ≡ bitAt ws (rowAt p) i
@@ -62,7 +62,7 @@ module _ (n k : ℕ) (ws : List ℕ) (R : ℕ → Row) (β : ℕ → ℕ) (S : �
         go (yes h) = st .parity p h ∙ rw no-add (xor-false _)
         go (no h) = ap (λ (x : ℕ). digit (x % 2)) (st .todo (lastAt p) (omega arith))
 
-    here-bit : (i : ℕ) → i < 768 → bitAt w (rowAt r) i ≡ bitAt ws (rowAt r) i
+    here-bit : (i : ℕ) → i < rowBits → bitAt w (rowAt r) i ≡ bitAt ws (rowAt r) i
     here-bit i l = bit-same ws w (rowAt r) (rowAt r) i (st .todo (rowAt r + i / 64) (omega arith))
 
     test : bitAt w (rowAt r) (u - 1) ≡ R r u
@@ -71,7 +71,7 @@ module _ (n k : ℕ) (ws : List ℕ) (R : ℕ → Row) (β : ℕ → ℕ) (S : �
     kept : adds r ≡ false → Clearing (suc r) w
     kept e =
         record {
-          done = at-or-not (suc r) r (λ q. (i : ℕ) → i < 768 → bitAt w (rowAt q) i ≡ bitAt ws (rowAt q) i ⊕ (adds q && bitAt ws (rowAt p) i)) (λ i l. here-bit i l ∙ sym (rw e (xor-false _))) (λ q l d. st .done q (omega arith));
+          done = at-or-not (suc r) r (λ q. (i : ℕ) → i < rowBits → bitAt w (rowAt q) i ≡ bitAt ws (rowAt q) i ⊕ (adds q && bitAt ws (rowAt p) i)) (λ i l. here-bit i l ∙ sym (rw e (xor-false _))) (λ q l d. st .done q (omega arith));
           parity = at-or-not (suc r) r (λ q. parityAt w q ≡ parityAt ws q ⊕ (adds q && parityAt ws p)) (ap (λ (x : ℕ). digit (x % 2)) (st .todo (lastAt r) (omega arith)) ∙ sym (rw e (xor-false _))) (λ q l d. st .parity q (omega arith));
           basic = at-or-not (suc r) r (λ q. basicAt w q ≡ basicAt ws q) (ap (λ (x : ℕ). x / 2) (st .todo (lastAt r) (omega arith))) (λ q l d. st .basic q (omega arith));
           todo = λ i h. st .todo i (omega arith);
@@ -80,7 +80,7 @@ module _ (n k : ℕ) (ws : List ℕ) (R : ℕ → Row) (β : ℕ → ℕ) (S : �
     added : adds r ≡ true → Added p r w w′ → Clearing (suc r) w′
     added e a =
         record {
-          done = at-or-not (suc r) r (λ q. (i : ℕ) → i < 768 → bitAt w′ (rowAt q) i ≡ bitAt ws (rowAt q) i ⊕ (adds q && bitAt ws (rowAt p) i))
+          done = at-or-not (suc r) r (λ q. (i : ℕ) → i < rowBits → bitAt w′ (rowAt q) i ≡ bitAt ws (rowAt q) i ⊕ (adds q && bitAt ws (rowAt p) i))
               (λ i l. bit-added w w′ (rowAt r) (rowAt r) (rowAt p) i (a .bits (i / 64) (omega arith)) ∙ ap₂ _⊕_ (here-bit i l) (pivot-bit i l ∙ sym (rw e)))
               (λ q l d i li. bit-same w w′ (rowAt q) (rowAt q) i (a .rest (rowAt q + i / 64) (inl (omega arith))) ∙ st .done q (omega arith) i li);
           parity = at-or-not (suc r) r (λ q. parityAt w′ q ≡ parityAt ws q ⊕ (adds q && parityAt ws p))
@@ -114,7 +114,7 @@ module _ (n k : ℕ) (ws : List ℕ) (R : ℕ → Row) (β : ℕ → ℕ) (S : �
     last-word : getD w (lastAt p) 0 ≡ 2 * u + getD (ex .middle) (lastAt p) 0 % 2
     last-word = ap (λ (l : List ℕ). getD l (lastAt p) 0) (ex .points) ∙ getD-set-same (ex .middle) (lastAt p) _ 0 (omega (arith, ex .long))
 
-    bits : (r : ℕ) → r < k → (i : ℕ) → i < 768 → bitAt w (rowAt r) i ≡ bitAt ws (rowAt r) i ⊕ (adds r && bitAt ws (rowAt p) i)
+    bits : (r : ℕ) → r < k → (i : ℕ) → i < rowBits → bitAt w (rowAt r) i ≡ bitAt ws (rowAt r) i ⊕ (adds r && bitAt ws (rowAt p) i)
     bits r l i li = bit-same (ex .middle) w (rowAt r) (rowAt r) i (other-word (rowAt r + i / 64) (λ (z : rowAt r + i / 64 ≡ lastAt p). absurd (omega arith))) ∙ c .done r l i li
 
     parities : (r : ℕ) → r < k → (r ≡ p) ⊎ (r ≢ p) → parityAt w r ≡ parityAt (ex .middle) r

@@ -14,7 +14,7 @@ ghost use lib.ListN.{length};
 ghost use Rattle.gf2.specs.Answers.{code};
 ghost use Rattle.gf2.specs.Places.{scanned};
 ghost use Rattle.words.specs.Words.{bitAt};
-ghost use Rattle.tableau.specs.Layout.{maxVars, maxRows, fromAt, knownAt, truthAt, size};
+ghost use Rattle.tableau.specs.Layout.{maxVars, maxRows, coefWords, fromAt, knownAt, truthAt, size};
 ghost use Rattle.tableau.specs.View.{vals};
 ghost use Rattle.lists.specs.Listing.{numbers, isNew, isOther, FirstOnes, items, ListPut};
 
@@ -62,7 +62,7 @@ fn list_word(x: u64, t: u64, s: u64, base: usize, at: usize, out: &mut [u64]) ->
 
 // The literals of the variables but v that have a value now and had none in old.
 pub fn list_new(work: &[u64], old: &[u64], v: usize, n: usize, out: &mut [u64]) -> usize
-    requires { ⌜ (size ≤ length (now work)) × (8 ≤ length (now old)) × (n ≤ maxVars) × (n ≤ length (now out)) × (0 < v) × (v ≤ maxVars) ⌝ }
+    requires { ⌜ (size ≤ length (now work)) × (coefWords ≤ length (now old)) × (n ≤ maxVars) × (n ≤ length (now out)) × (0 < v) × (v ≤ maxVars) ⌝ }
     ensures { λ x. ⌜ ListPut n 0 (scanned n (isNew (now (work .entry)) (now (old .entry)) v) (vals (now (work .entry)) truthAt)) (now (out .entry)) (now (out .exit)) x ⌝ }
 {
     let mut c = 0;

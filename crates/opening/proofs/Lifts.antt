@@ -26,7 +26,7 @@ use Rattle.linear.proofs.Opening.{reduce-more, left-over, others, source, skip-
 use Rattle.words.specs.Words.{digit, bitAt}
 use Rattle.words.proofs.Bits.{bit-same, bit-added, own-at}
 use Rattle.tableau.specs.Buffer.{basicAt, homeAt, parityAt, Added, Homed, Chain}
-use Rattle.tableau.specs.Layout.{maxVars, maxRows, rowAt, fromAt, lastAt, size}
+use Rattle.tableau.specs.Layout.{maxVars, maxRows, rowBits, rowAt, fromAt, lastAt, size}
 use Rattle.tableau.specs.View.{RowsRead, BuiltAt}
 use Rattle.tableau.proofs.Reading.{bit-of, rows-below, rows-stay, homed-other, prov-bit, digit-sum, basic-kept}
 use Rattle.exchange.proofs.Exchanges.{exchange-rows, exchange-homes}
@@ -112,7 +112,7 @@ module _ (n k : ℕ) (R : ℕ → Row) (β : ℕ → ℕ) (S : ℕ → ℕ → B
           clean = λ v l. rw (sl .clean v l, rr .clean r lr v l);
         })
       where
-        bits : (i : ℕ) → i < 768 → bitAt w′ (rowAt k) i ≡ bitAt w (rowAt k) i ⊕ bitAt w (rowAt r) i
+        bits : (i : ℕ) → i < rowBits → bitAt w′ (rowAt k) i ≡ bitAt w (rowAt k) i ⊕ bitAt w (rowAt r) i
         bits i l = bit-added w w′ (rowAt k) (rowAt k) (rowAt r) i (a .bits (i / 64) (omega arith))
 
     turn : Reduced k r w w′ → RowsRead n k w′ R β S × Slot n k w′ (reduce (suc r) R β c) (picked (suc r))

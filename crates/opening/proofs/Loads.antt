@@ -14,11 +14,11 @@ use lib.ListN.{length, getD, set}
 use lib.Seq.{getD-set-same, getD-set-other}
 use Rattle.words.specs.Words.{bitAt, ownWord, Lowest}
 use Rattle.tableau.specs.Buffer.{Run, Slice, Chain}
-use Rattle.tableau.specs.Layout.{maxVars, maxRows, rowSize, rowAt, fromAt, lastAt, size}
+use Rattle.tableau.specs.Layout.{maxVars, maxRows, coefWords, fromWords, rowSize, rowAt, fromAt, lastAt, size}
 use Rattle.tableau.proofs.Runs.{slice-bit}
 use Rattle.opening.specs.Opened.{Loaded, Reduced, LowestAt, Spent}
 
-pub load-done : (q k : ℕ) (store row ws a b : List ℕ) (x : ℕ) → size ≤ length ws → k < maxRows → Slice 8 store (9 * q) row → Run (rowAt k) 8 (λ j. getD row (0 + j) 0) ws a → Run (fromAt k) 4 (λ j. ownWord q j) a b → x ≡ getD store (9 * q + 8) 0 % 2
+pub load-done : (q k : ℕ) (store row ws a b : List ℕ) (x : ℕ) → size ≤ length ws → k < maxRows → Slice coefWords store (9 * q) row → Run (rowAt k) coefWords (λ j. getD row (0 + j) 0) ws a → Run (fromAt k) fromWords (λ j. ownWord q j) a b → x ≡ getD store (9 * q + 8) 0 % 2
     → Loaded q k store ws (set b (lastAt k) x)
 load-done q k store row ws a b x big lk rd r s e =
     record {
@@ -36,7 +36,7 @@ load-done q k store row ws a b x big lk rd r s e =
 pub own-same : (p q j x : ℕ) → x ≡ ownWord p j → p ≡ q → x ≡ ownWord q j
 own-same p q j x e h = e ∙ ap (λ (z : ℕ). ownWord z j) h
 
-pub lowest-read : (ws row : List ℕ) (k x : ℕ) → Slice 8 ws (rowAt k) row → Lowest 8 row x → LowestAt ws k x
+pub lowest-read : (ws row : List ℕ) (k x : ℕ) → Slice coefWords ws (rowAt k) row → Lowest 8 row x → LowestAt ws k x
 lowest-read ws row k x rd h =
     let u = h .upto in
     record {
@@ -47,7 +47,7 @@ lowest-read ws row k x rd h =
     }
   where
     at : (i : ℕ) → i < maxVars → bitAt ws (rowAt k) i ≡ bitAt row 0 i
-    at i l = sym (slice-bit 8 (rowAt k) ws row rd i l)
+    at i l = sym (slice-bit coefWords (rowAt k) ws row rd i l)
 
 pub none-left : (q k : ℕ) (store ws a w : List ℕ) (u : ℕ) → Loaded q k store ws a → Chain (Reduced k) k a w → LowestAt w k u → u ≡ 0 → Spent q k store ws w
 none-left q k store ws a w u l c s e = record { begun = a; loaded = l; reduced = c; empty = rw e at s }

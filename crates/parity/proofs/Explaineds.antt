@@ -24,7 +24,7 @@ use Rattle.judge.specs.declared.Header.{Header}
 use Rattle.judge.specs.Checks.{explainChecks}
 use Rattle.judge.proofs.Judged.{explain-judged}
 use Rattle.words.specs.Words.{bitAt}
-use Rattle.tableau.specs.Layout.{rowAt, fromAt, lastAt, knownAt, truthAt, size}
+use Rattle.tableau.specs.Layout.{maxRows, rowAt, fromAt, lastAt, knownAt, truthAt, size}
 use Rattle.tableau.specs.Buffer.{basicAt, homeAt}
 use Rattle.tableau.specs.View.{vals, Homes}
 use Rattle.tableau.proofs.Reading.{bit-of}
@@ -57,7 +57,7 @@ module _ (h : Header) (work clause rows : List ℕ) (v : ℕ) where
     not-refused : (c : ℕ) → refusal (explainChecks h (length work) (length clause) (length rows) v) ≡ suc c → ⊥
     not-refused c e = absurd (omega arith)
 
-    front-basic : (r : ℕ) → r < 256 → basicAt (take size work) r ≡ basicAt work r
+    front-basic : (r : ℕ) → r < maxRows → basicAt (take size work) r ≡ basicAt work r
     front-basic r l = ap (λ (z : ℕ). z / 2) (getD-take size work (lastAt r) 0 (omega arith))
 
     module _ (p : Position) (s : Stands h work p) where
@@ -138,7 +138,7 @@ module _ (h : Header) (work clause rows : List ℕ) (v : ℕ) where
         row-bit p s zero mu = let a = mu .low in absurd (omega arith)
         row-bit p s (suc i) mu =
             let b = small p s i (mu .high) in
-            let k : r < 256 = let a = s .made .few in omega arith in
+            let k : r < maxRows = let a = s .made .few in omega arith in
             ap₂ (λ (a c : Bool). a && not c) (sym (front-bit work room (rowAt r) (omega arith) i b) ∙ s .made .rows .coefs r l i b) (same-comm (suc i) v ∙ ap (λ (w : ℕ). same w (suc i)) (sym (basic p s)))
 
         sign-bit : (p : Position) (s : Stands h work p) (u : ℕ) → Var (h .n) u → not (vals work truthAt u) ≡ not (s .made .truth u)
@@ -147,8 +147,8 @@ module _ (h : Header) (work clause rows : List ℕ) (v : ℕ) where
 
         from-bit : (p : Position) (s : Stands h work p) (i : ℕ) → i < h .m → bitAt work (fromAt r) i ≡ s .made .S r i
         from-bit p s i b =
-            let k : r < 256 = let a = s .made .few in omega arith in
-            let c : i < 256 = let a = s .fit .rows in omega arith in
+            let k : r < maxRows = let a = s .made .few in omega arith in
+            let c : i < maxRows = let a = s .fit .rows in omega arith in
             sym (front-bit work room (fromAt r) (omega arith) i (omega arith)) ∙ s .made .rows .from r l i c
 
         clause-is : (p : Position) (s : Stands h work p)

@@ -42,7 +42,7 @@ use Rattle.sheet.specs.declared.Reading.{Reading}
 use Rattle.sheet.specs.declared.Reading.the-variants.{Refused, Read}
 use Rattle.sheet.specs.Reader.{said, reading, Reads}
 use Rattle.sheet.proofs.Store.{store-read}
-use Rattle.tableau.specs.Layout.{fromAt, knownAt, truthAt, size}
+use Rattle.tableau.specs.Layout.{maxRows, fromAt, knownAt, truthAt, size}
 use Rattle.tableau.specs.View.{MadeAt, vals}
 use Rattle.lists.specs.Listing.{numbers, ListPut}
 use Rattle.opening.specs.Opened.{AllIn, Stopped}
@@ -223,7 +223,7 @@ module _ (old : Header) (s store work literals rows : List ℕ) where
           big : size ≤ length (take size work)
           big = let z = front-long work (judged .1) in omega arith
 
-          f : (t : ℕ → Bool) × Fails (nOf s) (mOf s) Sheet kept q t × ((j : ℕ) → j < 256 → bitAt ws (fromAt k) j ≡ same q j ⊕ t j)
+          f : (t : ℕ → Bool) × Fails (nOf s) (mOf s) Sheet kept q t × ((j : ℕ) → j < maxRows → bitAt ws (fromAt k) j ≡ same q j ⊕ t j)
           f = open-fails (nOf s) (mOf s) Sheet kept is-kept store′ rows-read (judged .0 .n-small) (judged .0 .m-small) (take size work) big k ws a
 
           before : (j : ℕ) → j < q → (t : ℕ → Bool) → Fails (nOf s) (mOf s) Sheet kept j t → ⊥

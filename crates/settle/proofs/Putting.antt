@@ -17,7 +17,7 @@ use Rattle.gf2.specs.Field.{same}
 use Rattle.gf2.proofs.Sums.{same-dec, same-ne}
 use Rattle.words.specs.Words.{bitOf, bitAt, ownWord}
 use Rattle.words.proofs.Bits.{zero-bits, bit-or, own-bit, bit-same}
-use Rattle.tableau.specs.Layout.{maxVars, knownAt, truthAt, recordAt, size}
+use Rattle.tableau.specs.Layout.{maxVars, coefWords, knownAt, truthAt, recordAt, size}
 use Rattle.settle.specs.Values.{Put}
 
 pub or-some : (a b : Bool) → (a || b) ≡ true → (a ≡ true) ⊎ (b ≡ true)
@@ -35,7 +35,7 @@ and-left : (a b : Bool) → a && b ≡ true → a ≡ true
 and-left true b h = refl
 and-left false b h = h
 
-module _ (ws : List ℕ) (off p : ℕ) (y : ℕ) (f : ℕ → Bool) (fits : off + 8 ≤ length ws) (lp : p < maxVars) (here : (i : ℕ) → i / 64 ≡ p / 64 → bitOf y (63 - i % 64) ≡ f i) (away : (i : ℕ) → i / 64 ≢ p / 64 → f i ≡ false) where
+module _ (ws : List ℕ) (off p : ℕ) (y : ℕ) (f : ℕ → Bool) (fits : off + coefWords ≤ length ws) (lp : p < maxVars) (here : (i : ℕ) → i / 64 ≡ p / 64 → bitOf y (63 - i % 64) ≡ f i) (away : (i : ℕ) → i / 64 ≢ p / 64 → f i ≡ false) where
   abbrev pub marked : List ℕ
   marked = set ws (off + p / 64) (bitOr (getD ws (off + p / 64) 0) y)
 

@@ -32,7 +32,7 @@ use Rattle.settle.specs.Values.{Entry, Put, EntrySet}
 cleared : (ws w : List ℕ) → Run knownAt (2 * coefWords) (λ i. 0) ws w → (i : ℕ) → i < maxVars → (bitAt w knownAt i ≡ false) × (bitAt w truthAt i ≡ false)
 unfolding bitAt
 cleared ws w r i l =
-    let e : truthAt + i / 64 ≡ knownAt + (8 + i / 64) = omega arith in (
+    let e : truthAt + i / 64 ≡ knownAt + (coefWords + i / 64) = omega arith in (
       ap (λ (x : ℕ). bitOf x (63 - i % 64)) (r .done (i / 64) (omega arith)) ∙ zero-bits (63 - i % 64),
       ap (λ (x : ℕ). bitOf (getD w x 0) (63 - i % 64)) e ∙ ap (λ (x : ℕ). bitOf x (63 - i % 64)) (r .done (8 + i / 64) (omega arith)) ∙ zero-bits (63 - i % 64),
     )

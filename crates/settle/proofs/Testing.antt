@@ -20,7 +20,7 @@ use Rattle.gf2.proofs.Sums.{same-dec, same-refl, same-ne, bool-dec}
 use Rattle.linear.proofs.Assume.{clash}
 use Rattle.words.specs.Words.{bitOf, bitAt, ownWord}
 use Rattle.words.proofs.Bits.{bit-xor, bit-or, bit-without, bits-zero, zero-bits, own-bit, own-lt}
-use Rattle.tableau.specs.Layout.{maxVars, rowAt, knownAt}
+use Rattle.tableau.specs.Layout.{maxVars, coefWords, rowAt, knownAt}
 use Rattle.settle.specs.Values.{lacks, Overlay}
 
 module _ (ws : List ℕ) (r : ℕ) where
@@ -49,7 +49,7 @@ module _ (ws : List ℕ) (r : ℕ) where
 
   module _ (p : ℕ) where
     -- a row whose one variable without a value is p + 1 has a one at that place alone
-    pub overlay-bad : (x : ℕ) → x < 2 ^ 64 → Overlay 8 ws r x → ((i : ℕ) → i < maxVars → lacks ws r i ≡ same p i) → bitXor x (bitAnd x (ownWord p (p / 64))) ≡ 0
+    pub overlay-bad : (x : ℕ) → x < 2 ^ 64 → Overlay coefWords ws r x → ((i : ℕ) → i < maxVars → lacks ws r i ≡ same p i) → bitXor x (bitAnd x (ownWord p (p / 64))) ≡ 0
     overlay-bad x f o h =
         bits-zero 64 _ (xor-lt 64 _ _ f (lt-of-le-of-lt (and-le-l x (ownWord p (p / 64))) f))
         (λ t l. bit-without x (ownWord p (p / 64)) t ∙ go t l (bool-dec (bitOf x t)))
@@ -57,7 +57,7 @@ module _ (ws : List ℕ) (r : ℕ) where
         own-digit : (t : ℕ) → 63 - p % 64 ≡ t → bitOf (ownWord p (p / 64)) t ≡ true
         own-digit t e = ap (bitOf (ownWord p (p / 64))) (sym e) ∙ own-bit p p ∙ same-refl p
 
-        place : (t j : ℕ) → t < 64 → j < 8 → lacks ws r (j * 64 + (63 - t)) ≡ true → (p ≡ j * 64 + (63 - t)) ⊎ (p ≢ j * 64 + (63 - t)) → 63 - p % 64 ≡ t
+        place : (t j : ℕ) → t < 64 → j < coefWords → lacks ws r (j * 64 + (63 - t)) ≡ true → (p ≡ j * 64 + (63 - t)) ⊎ (p ≢ j * 64 + (63 - t)) → 63 - p % 64 ≡ t
         place t j l m e (inl z) = omega arith
         place t j l m e (inr z) = absurd (clash (lacks ws r (j * 64 + (63 - t))) e (h (j * 64 + (63 - t)) (omega arith) ∙ same-ne p (j * 64 + (63 - t)) z))
 
@@ -84,7 +84,7 @@ module _ (ws : List ℕ) (r : ℕ) where
         go (yes z) = h i z
         go (no z) = let q : i / 64 ≡ j = omega arith in word-ok j e i q
 
-    pub word-bad : (j : ℕ) → j < 8 → getD ws (rowAt r + j) 0 < 2 ^ 64 → ((i : ℕ) → i < maxVars → lacks ws r i ≡ same p i) → rest-word j ≡ 0
+    pub word-bad : (j : ℕ) → j < coefWords → getD ws (rowAt r + j) 0 < 2 ^ 64 → ((i : ℕ) → i < maxVars → lacks ws r i ≡ same p i) → rest-word j ≡ 0
     word-bad j l f h =
         bits-zero 64 (rest-word j) (xor-lt 64 _ _ (xor-lt 64 _ _ f (lt-of-le-of-lt (and-le-l (getD ws (rowAt r + j) 0) (getD ws (knownAt + j) 0)) f)) (own-lt p j))
         (λ t m.

@@ -19,7 +19,7 @@ use Rattle.gf2.specs.Rows.{Row}
 use Rattle.gf2.specs.Answers.{variable, value}
 use Rattle.words.specs.Words.{bitOf, digit, bitAt}
 use Rattle.words.proofs.Bits.{bit-same}
-use Rattle.tableau.specs.Layout.{maxVars, maxRows, rowAt, fromAt, lastAt, knownAt, recordAt, homeStep}
+use Rattle.tableau.specs.Layout.{maxVars, maxRows, coefWords, rowAt, fromAt, lastAt, knownAt, recordAt, homeStep}
 use Rattle.tableau.specs.Buffer.{basicAt, entryAt, homeAt, Homed}
 use Rattle.tableau.specs.View.{RowsRead, LitsRead, Homes}
 
@@ -59,10 +59,10 @@ homed-other u p ws w h r l lo d e = ap (λ (x : ℕ). homeAt w (x / 2)) (h .rest
 pub lits-stay : (d : ℕ) (ws w : List ℕ) (x : ℕ → ℕ) (y : ℕ → Bool) → ((j : ℕ) → j < d → entryAt w j ≡ entryAt ws j) → LitsRead d ws x y → LitsRead d w x y
 lits-stay d ws w x y h lr = record { var = λ j l. ap variable (h j l) ∙ lr .var j l; val = λ j l. ap value (h j l) ∙ lr .val j l }
 
-pub prov-bit : (ws : List ℕ) (a j : ℕ) → bitAt ws (a + 8) j ≡ bitAt ws a (maxVars + j)
+pub prov-bit : (ws : List ℕ) (a j : ℕ) → bitAt ws (a + coefWords) j ≡ bitAt ws a (maxVars + j)
 unfolding bitAt
 prov-bit ws a j =
-    let e : a + 8 + j / 64 ≡ a + (maxVars + j) / 64 = omega arith in
+    let e : a + coefWords + j / 64 ≡ a + (maxVars + j) / 64 = omega arith in
     let f : j % 64 ≡ (maxVars + j) % 64 = omega arith in
     ap₂ (λ (x y : ℕ). bitOf (getD ws x 0) (63 - y)) e f
 

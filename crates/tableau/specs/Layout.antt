@@ -1,7 +1,7 @@
 -- THE WORKING BUFFER: how much it holds, and where its words lie. src/lib.rt has the same numbers as constants.
 --
 --   maxVars, maxRows, maxTaken   the most variables, rows and taken literals
---   coefWords, fromWords         the words of a bit for each variable, and for each row
+--   coefWords, fromWords         the words of a bit for each variable, and for each row; rowBits: the bits of both
 --
 --   words                   what
 --   rowAt r  .. + rowSize   row r, for r below maxRows:
@@ -29,6 +29,9 @@ coefWords = 8
 
 abbrev pub fromWords : ℕ
 fromWords = 4
+
+abbrev pub rowBits : ℕ
+rowBits = 64 * (coefWords + fromWords)
 
 abbrev pub rowSize : ℕ
 rowSize = coefWords + fromWords + 1

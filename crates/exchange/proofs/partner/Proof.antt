@@ -10,6 +10,7 @@ use borrow.Author.Needs.{needs}
 use denote.Ref.{now}
 use Rattle.words.proofs.Ones.{zeros-lt, rest-less}
 use Rattle.settle.specs.Values.{lacks}
+use Rattle.tableau.specs.Layout.{coefWords}
 use Rattle.exchange.proofs.Partners.{lack-made, Scan, scan-start, scan-end, scan-top, scan-under, scan-next}
 use Rattle.exchange.proofs.partner.Statement.{statement}
 use Rattle.exchange.proofs.partner.Tie as tie
@@ -21,10 +22,10 @@ abbrev μ-loop : tie.MeasureT-loop
 μ-loop work r v a found₀ w rest₀ found rest = rest
 
 abbrev Inv-scan : tie.InvT-scan
-Inv-scan work r v a found₀ w₀ found w = (w ≤ 8) × (found ≡ 0) × ((i : ℕ) → i < w * 64 → i ≢ v - 1 → lacks work r i ≡ false)
+Inv-scan work r v a found₀ w₀ found w = (w ≤ coefWords) × (found ≡ 0) × ((i : ℕ) → i < w * 64 → i ≢ v - 1 → lacks work r i ≡ false)
 
 abbrev μ-scan : tie.MeasureT-scan
-μ-scan work r v a found₀ w₀ found w = 8 - w
+μ-scan work r v a found₀ w₀ found w = coefWords - w
 
 -- something is left, and its top one is a digit of the word
 some : (c : tie.In-loop Inv-loop μ-loop Inv-scan μ-scan) → 0 < c .before .loop .rest

@@ -6,7 +6,7 @@ use native.Mathlib.Omega.{arith}
 use borrow.Author.Needs.{needs}
 use denote.Ref.{now}
 use Rattle.words.proofs.Bits.{either-read}
-use Rattle.tableau.specs.Layout.{rowAt}
+use Rattle.tableau.specs.Layout.{rowSize, rowAt}
 use Rattle.opening.proofs.in_two.Statement.{statement}
 use Rattle.opening.proofs.in_two.Tie as tie
 
@@ -42,7 +42,7 @@ shr-result c = search needs
 
 returns : tie.Need-returns
 returns c = let a = c .before .before .args in
-    let e : rowAt (a .r) + (a .v - 1) / 64 + 13 ≡ rowAt (a .r + 1) + (a .v - 1) / 64 = omega arith in
+    let e : rowAt (a .r) + (a .v - 1) / 64 + rowSize ≡ rowAt (a .r + 1) + (a .v - 1) / 64 = omega arith in
     rw e (either-read (now (a .work)) (rowAt (a .r)) (rowAt (a .r + 1)) (a .v - 1))
 
 pub in-two-spec : {M : Type 1} → statement M

@@ -7,17 +7,17 @@ use native.Mathlib.Omega.{arith}
 use borrow.Author.Needs.{needs}
 use denote.Ref.{now}
 use Rattle.gf2.specs.Field.{same}
-use Rattle.tableau.specs.Layout.{rowAt}
+use Rattle.tableau.specs.Layout.{coefWords, rowAt}
 use Rattle.settle.specs.Values.{lacks}
 use Rattle.settle.proofs.Testing.{sole-more, word-bad}
 use Rattle.settle.proofs.alone.Statement.{statement}
 use Rattle.settle.proofs.alone.Tie as tie
 
 abbrev Inv-loop : tie.InvT-loop
-Inv-loop work r v a j₀ j = (j ≤ 8) × ((i : ℕ) → i < j * 64 → lacks work r i ≡ same (v - 1) i)
+Inv-loop work r v a j₀ j = (j ≤ coefWords) × ((i : ℕ) → i < j * 64 → lacks work r i ≡ same (v - 1) i)
 
 abbrev μ-loop : tie.MeasureT-loop
-μ-loop work r v a j₀ j = 8 - j
+μ-loop work r v a j₀ j = coefWords - j
 
 mul-a : tie.Need-mul-a Inv-loop μ-loop
 mul-a c = search needs

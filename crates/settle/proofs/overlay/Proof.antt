@@ -5,16 +5,17 @@ use Prim.Native.Nat.{_≤_, _-_}
 use native.Mathlib.Omega.{arith}
 use borrow.Author.Needs.{needs}
 use denote.Ref.{now}
+use Rattle.tableau.specs.Layout.{coefWords}
 use Rattle.settle.specs.Values.{Overlay}
 use Rattle.settle.proofs.Testing.{overlay-none, overlay-more}
 use Rattle.settle.proofs.overlay.Statement.{statement}
 use Rattle.settle.proofs.overlay.Tie as tie
 
 abbrev Inv-loop : tie.InvT-loop
-Inv-loop work r a over₀ j₀ over j = (j ≤ 8) × Overlay j work r over
+Inv-loop work r a over₀ j₀ over j = (j ≤ coefWords) × Overlay j work r over
 
 abbrev μ-loop : tie.MeasureT-loop
-μ-loop work r a over₀ j₀ over j = 8 - j
+μ-loop work r a over₀ j₀ over j = coefWords - j
 
 mul-a : tie.Need-mul-a Inv-loop μ-loop
 mul-a c = search needs
