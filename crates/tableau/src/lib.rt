@@ -148,17 +148,23 @@ pub fn block_end(q: usize, k: usize) -> usize
     if k - q < 64 { k } else { q + 64 }
 }
 
+// Which of rows r and r + 1 have the variable v: a digit each, the lowest for row r + 1.
+fn two(work: &[u64], r: usize, v: usize) -> u64
+    requires { ⌜ (size ≤ length (now work)) × (r + 2 ≤ maxRows) × (0 < v) × (v ≤ maxVars) ⌝ }
+    ensures { λ x. ⌜ Gathered (now (work .entry)) r (r + 2) (v - 1) x ⌝ }
+{
+    let p = v - 1;
+    let d = 63 - p % 64;
+    let a = ROW * r + p / 64;
+    2 * ((work[a] >> d) % 2) + (work[a + ROW] >> d) % 2
+}
+
 // Which of the four rows from r on have the variable v: a digit each, the lowest for row r + 3.
 fn four(work: &[u64], r: usize, v: usize) -> u64
     requires { ⌜ (size ≤ length (now work)) × (r + 4 ≤ maxRows) × (0 < v) × (v ≤ maxVars) ⌝ }
     ensures { λ x. ⌜ Gathered (now (work .entry)) r (r + 4) (v - 1) x ⌝ }
 {
-    let p = v - 1;
-    let d = 63 - p % 64;
-    let a = ROW * r + p / 64;
-    let x = 2 * ((work[a] >> d) % 2) + (work[a + ROW] >> d) % 2;
-    let y = 2 * ((work[a + 2 * ROW] >> d) % 2) + (work[a + 3 * ROW] >> d) % 2;
-    4 * x + y
+    4 * two(work, r, v) + two(work, r + 2, v)
 }
 
 // Which rows from q to below e, 64 at most, have the variable v: a digit each, the top one for row q. They are read without a branch,
