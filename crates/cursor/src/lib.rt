@@ -1,4 +1,5 @@
 // A cursor over the bits of a sheet: each read gives it back moved on, and so does each write. And the head of a sheet, which says its size.
+#![tactic(auto)]
 ghost use Rattle.std.specs.Prelude.{◌≡◌, ◌+◌, ◌*◌, ◌^◌, ◌≤◌, ◌<◌, length, take, drop};
 ghost use Rattle.format.specs.Bits.{bits_of, bits_n, value_of, put_at};
 ghost use Rattle.format.specs.Sheet.{n_of, m_of, bits_for, size_for};

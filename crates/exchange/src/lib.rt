@@ -1,4 +1,5 @@
 // Assuming: a basic variable is exchanged, and the literal is taken.
+#![tactic(auto)]
 ghost use Rattle.std.specs.Prelude.{true, ◌≡◌, ◌+◌, ◌*◌, ◌-◌, ◌<◌, ◌≤◌, length};
 ghost use Rattle.words.specs.Words.{bit_at};
 ghost use Rattle.tableau.specs.Layout.{max_vars, max_rows, max_taken, row_at, size};

@@ -1,4 +1,5 @@
 // The header of a state, and the refusals that a call gives before it looks into the working buffer.
+#![tactic(auto)]
 ghost use Rattle.std.specs.Prelude.{◌≡◌};
 ghost use Rattle.format.specs.Refusals.{refusal};
 ghost use Rattle.judge.specs.Checks.{unfit, assume_checks, back_checks, explain_checks};

@@ -53,6 +53,7 @@ code_in zero x y j l = absurd (not-suc-le-zero l)
 code_in (suc d) x y j l = go (same_dec j d) (λ h. code_in d x y j h)
   where
     left : (ls ks : List ℕ) (c : ℕ) → c ∈ ls → c ∈ (ls ++ ks)
+    left [] ks c h = elim h [ ]
     left (l ∷ ls) ks c (inl e) = inl e
     left (l ∷ ls) ks c (inr h) = inr (left ls ks c h)
 

@@ -2,6 +2,7 @@
 // the caller lends. Every function answers where the text that it wrote ends; past that the buffer keeps what it had.
 //
 // A number takes at most 21 bytes with its space, and the rest of a line less than 64: 16,384 bytes hold any line.
+#![tactic(auto)]
 ghost use Rattle.std.specs.Prelude.{[], ◌∷◌, map, ◌+◌, ◌*◌, ◌≤◌, length, take};
 ghost use Rattle.lines.specs.Lines.{Put, dec, spaced, line, text, Said};
 

@@ -1,4 +1,5 @@
 // Opening: the rows of the row store go into the working buffer, one after another.
+#![tactic(auto)]
 ghost use Rattle.std.specs.Prelude.{◌≡◌, ◌||◌, ◌+◌, ◌-◌, ◌*◌, ◌%◌, ◌<◌, ◌≤◌, length};
 ghost use Rattle.words.specs.Words.{bit_at, own_word};
 ghost use Rattle.tableau.specs.Layout.{from_words, max_vars, max_rows, row_at, from_at, size};

@@ -1,4 +1,5 @@
 // The session program: a sheet and commands on standard input, a line for each answer on standard output.
+#![tactic(auto)]
 ghost use Rattle.std.specs.Prelude.{◌≤◌, length};
 ghost use Rattle.dialogue.specs.Steps.{room};
 
