@@ -1,5 +1,6 @@
 // Rows in words of 64 bits, variable 1 in the top bit of the first word: eight words of coefficients, four of provenance.
 #![tactic(auto)]
+
 ghost use Rattle.std.specs.Prelude.{◌≡◌, ◌&&◌, ◌+◌, ◌-◌, ◌<◌, ◌≤◌, length};
 ghost use Rattle.std.specs.Int.Bits.{bit_and, bit_xor};
 ghost use Rattle.gf2.specs.Field.{xsum};
