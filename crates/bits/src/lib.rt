@@ -1,5 +1,6 @@
 // Bits of bytes and of words of 64 bits, the top bit first: pieces of one byte, and windows of 64 bits that begin inside a byte.
 #![tactic(auto)]
+
 ghost use Rattle.std.specs.Prelude.{◌≡◌, ◌+◌, ◌-◌, ◌*◌, ◌/◌, ◌%◌, ◌^◌, ◌≤◌, ◌<◌, min, length, take, drop};
 ghost use Rattle.format.specs.Bits.{bits_of, bits_n, value_of, put_at};
 

@@ -16,7 +16,7 @@ const UNSATISFIABLE: u64 = 102;
 
 // What reading answers: n and m of the sheet.
 #[repr(C)]
-#[derive(Drop)]
+#[derive(Clone, Copy)]
 pub struct ReadNumbers {
     pub number: u64,
     pub n: usize,
@@ -25,7 +25,7 @@ pub struct ReadNumbers {
 
 // What writing answers: the bytes written.
 #[repr(C)]
-#[derive(Drop)]
+#[derive(Clone, Copy)]
 pub struct WriteNumbers {
     pub number: u64,
     pub size: usize,
@@ -33,7 +33,7 @@ pub struct WriteNumbers {
 
 // What opening answers: how many literals are listed, or row numbers where it is unsatisfiable, and the header.
 #[repr(C)]
-#[derive(Drop)]
+#[derive(Clone, Copy)]
 pub struct OpenNumbers {
     pub number: u64,
     pub count: usize,
@@ -42,7 +42,7 @@ pub struct OpenNumbers {
 
 // What assuming answers: how many literals are listed, or the variable of a conflict, and the header.
 #[repr(C)]
-#[derive(Drop)]
+#[derive(Clone, Copy)]
 pub struct AssumeNumbers {
     pub number: u64,
     pub count: usize,
@@ -51,7 +51,7 @@ pub struct AssumeNumbers {
 
 // What explaining answers: how many codes and how many row numbers are listed.
 #[repr(C)]
-#[derive(Drop)]
+#[derive(Clone, Copy)]
 pub struct ExplainNumbers {
     pub number: u64,
     pub clause: usize,

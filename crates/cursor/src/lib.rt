@@ -1,24 +1,25 @@
 // A cursor over the bits of a sheet: each read gives it back moved on, and so does each write. And the head of a sheet, which says its size.
 #![tactic(auto)]
+
 ghost use Rattle.std.specs.Prelude.{◌≡◌, ◌+◌, ◌*◌, ◌^◌, ◌≤◌, ◌<◌, length, take, drop};
 ghost use Rattle.format.specs.Bits.{bits_of, bits_n, value_of, put_at};
 ghost use Rattle.format.specs.Sheet.{n_of, m_of, bits_for, size_for};
 
 // How many bits stand before it.
-#[derive(Drop)]
+#[derive(Clone, Copy)]
 pub struct Cursor {
     pub at: usize,
 }
 
 // A field that was read, and the cursor behind it.
-#[derive(Drop)]
+#[derive(Clone, Copy)]
 pub struct Field {
     pub value: u64,
     pub next: Cursor,
 }
 
 // The two numbers at the head of a sheet.
-#[derive(Drop)]
+#[derive(Clone, Copy)]
 pub struct Head {
     pub n: usize,
     pub m: usize,

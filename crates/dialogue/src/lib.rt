@@ -10,7 +10,7 @@ use judge::Header;
 use parity::{Assuming, Explaining, Opening};
 
 // The header after a step, where its line ends in the line buffer, and whether the session goes on.
-#[derive(Drop)]
+#[derive(Clone, Copy)]
 pub struct Step {
     pub header: Header,
     pub end: usize,

@@ -1,5 +1,6 @@
 // Assuming: a basic variable is exchanged, and the literal is taken.
 #![tactic(auto)]
+
 ghost use Rattle.std.specs.Prelude.{true, ◌≡◌, ◌+◌, ◌*◌, ◌-◌, ◌<◌, ◌≤◌, length};
 ghost use Rattle.words.specs.Words.{bit_at};
 ghost use Rattle.tableau.specs.Layout.{max_vars, max_rows, max_taken, row_at, size};
@@ -126,7 +127,7 @@ fn take(work: &mut [u64], k: usize, d: usize, code: usize) -> bool
 }
 
 // What a literal that is offered comes to: its variable has that value; it has the other; the literal is taken; it cannot be.
-#[derive(Drop)]
+#[derive(Clone, Copy)]
 pub enum Offer {
     Held,
     Conflict,

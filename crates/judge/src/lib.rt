@@ -1,12 +1,13 @@
 // The header of a state, and the refusals that a call gives before it looks into the working buffer.
 #![tactic(auto)]
+
 ghost use Rattle.std.specs.Prelude.{◌≡◌};
 ghost use Rattle.format.specs.Refusals.{refusal};
 ghost use Rattle.judge.specs.Checks.{unfit, assume_checks, back_checks, explain_checks};
 
 // A state is a header and a working buffer. It is open exactly if `open` is 1.
 #[repr(C)]
-#[derive(Drop)]
+#[derive(Clone, Copy)]
 pub struct Header {
     pub open: u64,
     pub n: usize,

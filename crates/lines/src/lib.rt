@@ -3,6 +3,7 @@
 //
 // A number takes at most 21 bytes with its space, and the rest of a line less than 64: 16,384 bytes hold any line.
 #![tactic(auto)]
+
 ghost use Rattle.std.specs.Prelude.{[], ◌∷◌, map, ◌+◌, ◌*◌, ◌≤◌, length, take};
 ghost use Rattle.lines.specs.Lines.{Put, dec, spaced, line, text, Said};
 
@@ -34,7 +35,7 @@ fn put_number(out: &mut [u8], at: usize, n: u64) -> usize
 // The first `count` numbers, each after a space.
 fn put_numbers(out: &mut [u8], at: usize, ns: &[u64], count: usize) -> usize
     requires count_in_bounds { count ≤ length ns.now }
-    requires count_in_bounds_2 { at + 21 * count ≤ length out.old }
+    requires room { at + 21 * count ≤ length out.old }
     ensures put { Put out.old at (spaced (map dec (take count ns.now))) out.new result }
     ensures upper_bound { result ≤ at + 21 * count }
 {
@@ -60,7 +61,7 @@ fn put_named(out: &mut [u8], word: &[u8], n: u64) -> usize
 // `open KEPT implied COUNT codes..`, where the codes are the first `count` of the slice.
 pub fn opened(out: &mut [u8], kept: u64, codes: &[u64], count: usize) -> usize
     requires count_in_bounds { count ≤ length codes.now }
-    requires count_in_bounds_2 { 64 + 21 * count ≤ length out.old }
+    requires room { 64 + 21 * count ≤ length out.old }
     ensures { Put out.old 0 (text (Said.opened kept (take count codes.now))) out.new result }
 {
     let a = put_bytes(out, 0, b"open");
@@ -74,7 +75,7 @@ pub fn opened(out: &mut [u8], kept: u64, codes: &[u64], count: usize) -> usize
 // `unsat rows..`, the first `count` of the slice.
 pub fn unsatisfiable(out: &mut [u8], rows: &[u64], count: usize) -> usize
     requires count_in_bounds { count ≤ length rows.now }
-    requires count_in_bounds_2 { 64 + 21 * count ≤ length out.old }
+    requires room { 64 + 21 * count ≤ length out.old }
     ensures { Put out.old 0 (text (Said.unsatisfiable (take count rows.now))) out.new result }
 {
     let next = put_bytes(out, 0, b"unsat");
@@ -85,7 +86,7 @@ pub fn unsatisfiable(out: &mut [u8], rows: &[u64], count: usize) -> usize
 // `implied COUNT codes..`, where the codes are the first `count` of the slice.
 pub fn implied(out: &mut [u8], codes: &[u64], count: usize) -> usize
     requires count_in_bounds { count ≤ length codes.now }
-    requires count_in_bounds_2 { 64 + 21 * count ≤ length out.old }
+    requires room { 64 + 21 * count ≤ length out.old }
     ensures { Put out.old 0 (text (Said.implied (take count codes.now))) out.new result }
 {
     let a = put_bytes(out, 0, b"implied");
@@ -129,7 +130,7 @@ pub fn explained(
 ) -> usize
     requires literals_in_bounds { literals ≤ length clause.now }
     requires numbers_in_bounds { numbers ≤ length rows.now }
-    requires numbers_in_bounds_2 { 64 + 21 * (literals + numbers) ≤ length out.old }
+    requires room { 64 + 21 * (literals + numbers) ≤ length out.old }
     ensures { Put out.old 0
         (text (Said.explained variable (take literals clause.now) (take numbers rows.now)))
         out.new result }

@@ -1,5 +1,6 @@
 // The lists of the answers: each scan writes what a test picks, ascending.
 #![tactic(auto)]
+
 ghost use Rattle.std.specs.Prelude.{◌≡◌, not, ◌∷◌, ◌+◌, ◌-◌, ◌<◌, ◌≤◌, length};
 ghost use Rattle.gf2.specs.Answers.{code};
 ghost use Rattle.gf2.specs.Places.{scanned};

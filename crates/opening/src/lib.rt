@@ -1,5 +1,6 @@
 // Opening: the rows of the row store go into the working buffer, one after another.
 #![tactic(auto)]
+
 ghost use Rattle.std.specs.Prelude.{◌≡◌, ◌||◌, ◌+◌, ◌-◌, ◌*◌, ◌%◌, ◌<◌, ◌≤◌, length};
 ghost use Rattle.words.specs.Words.{bit_at, own_word};
 ghost use Rattle.tableau.specs.Layout.{from_words, max_vars, max_rows, row_at, from_at, size};
@@ -130,7 +131,7 @@ fn enter(work: &mut [u64], k: usize, u: usize)
 }
 
 // What a row that goes in comes to: it says nothing new; it contradicts; it is kept.
-#[derive(Drop)]
+#[derive(Clone, Copy)]
 pub enum RowCase {
     Redundant,
     Contradictory,
@@ -158,7 +159,7 @@ fn open_row(work: &mut [u64], rows: &[u64], q: usize, k: usize) -> RowCase
 }
 
 // What all rows that go in come to: so many are kept; one contradicts, after so many were kept.
-#[derive(Drop)]
+#[derive(Clone, Copy)]
 pub enum RowsCase {
     Open(usize),
     Unsat(usize),

@@ -14,7 +14,7 @@ use tableau::{KNOWN, SIZE};
 use words::bit;
 
 // What open answers: refused with its number; unsatisfiable, with so many row numbers listed; open, with so many implied literals listed.
-#[derive(Drop)]
+#[derive(Clone, Copy)]
 pub enum Opening {
     OpenRefused(u8),
     Unsatisfiable(usize),
@@ -22,7 +22,7 @@ pub enum Opening {
 }
 
 // What assume answers: refused with its number; held; in conflict with the value of a variable; taken, with so many newly implied literals listed.
-#[derive(Drop)]
+#[derive(Clone, Copy)]
 pub enum Assuming {
     AssumeRefused(u8),
     Held,
@@ -31,28 +31,28 @@ pub enum Assuming {
 }
 
 // What explain answers: refused with its number; so many codes of the clause and so many row numbers listed.
-#[derive(Drop)]
+#[derive(Clone, Copy)]
 pub enum Explaining {
     ExplainRefused(u8),
     Explained(usize, usize),
 }
 
 // What open hands back: the header, which is the earlier one where opening is refused, and the answer.
-#[derive(Drop)]
+#[derive(Clone, Copy)]
 pub struct OpenOut {
     pub header: Header,
     pub answer: Opening,
 }
 
 // What assume hands back: the header, one literal deeper where the literal was taken, and the answer.
-#[derive(Drop)]
+#[derive(Clone, Copy)]
 pub struct AssumeOut {
     pub header: Header,
     pub answer: Assuming,
 }
 
 // What back hands back: 0 or the number of its refusal, and the header.
-#[derive(Drop)]
+#[derive(Clone, Copy)]
 pub struct BackOut {
     pub number: u64,
     pub header: Header,

@@ -1,5 +1,6 @@
 // Values: those of the taken literals, and then what each row gives its basic variable; all anew, or on from one more literal.
 #![tactic(auto)]
+
 ghost use Rattle.std.specs.Prelude.{◌≡◌, ◌+◌, ◌*◌, ◌-◌, ◌<◌, ◌≤◌, length};
 ghost use Rattle.tableau.specs.Layout.{coef_words, max_vars, max_rows, max_taken, known_at, size};
 ghost use Rattle.tableau.specs.Buffer.{Run, Chain, Span};

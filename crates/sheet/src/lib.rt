@@ -10,7 +10,7 @@ ghost use Rattle.sheet.specs.Rewriter.{Rewrites};
 use cursor::Cursor;
 
 // A row of a sheet: eight words of coefficients, variable 1 in the top bit of the first, the parity, and the cursor behind it.
-#[derive(Drop)]
+#[derive(Clone, Copy)]
 pub struct Row {
     pub words: [u64; 8],
     pub parity: u64,
@@ -18,14 +18,14 @@ pub struct Row {
 }
 
 // What the reader says: a refusal number of document 01, or that a sheet of n variables and m rows was read.
-#[derive(Drop)]
+#[derive(Clone, Copy)]
 pub enum Reading {
     Refused(u8),
     Read { n: usize, m: usize },
 }
 
 // What the writer says: a refusal number, or that a sheet of so many bytes was written.
-#[derive(Drop)]
+#[derive(Clone, Copy)]
 pub enum Writing {
     Refused(u8),
     Written { size: usize },

@@ -1,5 +1,6 @@
 // The working buffer, and the operations that read and write its rows and its record. specs/Layout.antt has the table of its words.
 #![tactic(auto)]
+
 ghost use Rattle.std.specs.Prelude.{◌≡◌, ◌+◌, ◌*◌, ◌-◌, ◌<◌, ◌≤◌, min, length, get_or};
 ghost use Rattle.tableau.specs.Layout.{coef_words, from_words, max_vars, max_rows, max_taken, row_at, from_at, home_step, size};
 ghost use Rattle.tableau.specs.Buffer.{Run, Slice, Added, entry_at, home_at, Recorded, Homed, Gathered, Column};

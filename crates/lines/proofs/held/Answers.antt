@@ -1,0 +1,6 @@
+use Rattle.lines.specs.Lines.{spaced}
+use Rattle.lines.proofs.held.Goals as goal
+
+pub returns : goal.returns
+unfolding spaced
+returns c = c.put_bytes.ensures

@@ -1,0 +1,8 @@
+use Rattle.std.proofs.Common.{ap, arith, ◌∙◌}
+use Rattle.gf2.specs.Answers.{code}
+use Rattle.lists.proofs.Picking.{listed_cons}
+use Rattle.lists.proofs.list_clause.Goals as goal
+
+pub returns : goal.returns
+returns c =
+    rw (c.literal.ensures ∙ ap (code c.args.v) c.bit.ensures) at (listed_cons c.args.n _ c.args.out.now _ _ c.literal.result (omega arith) c.list_others.ensures)

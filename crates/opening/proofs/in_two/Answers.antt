@@ -1,0 +1,10 @@
+use Rattle.std.proofs.Common.{arith, ◌+◌, ◌-◌, ◌/◌, ◌≡◌}
+use Rattle.words.proofs.Bits.{either_read}
+use Rattle.tableau.specs.Layout.{row_size, row_at}
+use Rattle.opening.proofs.in_two.Goals as goal
+
+pub returns : goal.returns
+returns c =
+    let a = c.args in
+    let e : row_at a.r + (a.v - 1) / 64 + row_size ≡ row_at (a.r + 1) + (a.v - 1) / 64 = omega arith in
+    rw e (either_read a.work.now (row_at a.r) (row_at (a.r + 1)) (a.v - 1))
