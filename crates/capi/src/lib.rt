@@ -1,5 +1,6 @@
 // The C interface: the calls with numbers and slices, as include/parity.h declares them. Each answer is a struct of numbers; a field that the number gives no meaning is 0.
 #![tactic(auto)]
+
 ghost use Rattle.parity.specs.Promises.{BackPromise};
 ghost use Rattle.capi.specs.Exports.{ReadExport, WriteExport, OpenExport, AssumeExport, ExplainExport};
 

@@ -1,6 +1,7 @@
 // A session step by step: the sheet at the start of the input, and each command after it. A step is one call and its line, which stands
 // at the start of the line buffer. Nothing is read or written here.
 #![tactic(auto)]
+
 ghost use Rattle.std.specs.Prelude.{◌≡◌, ◌≤◌, length};
 ghost use Rattle.lines.specs.Lines.{Put, text};
 ghost use Rattle.dialogue.specs.Dialogue.{sheet_end, command_of, said_opening, said_assuming, said_backing, said_explaining, goes_on};

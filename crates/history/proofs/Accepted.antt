@@ -7,7 +7,7 @@ use mathlib.Core.Path.{◌≡◌, subst}
 use mathlib.Core.Logic.{◌↔◌}
 use mathlib.Core.List.{List}
 use lib.ListN.{length, length-take}
-use Prim.Native.Nat.{ℕ, ◌+◌, ◌*◌, ◌≤◌}
+use Prim.Native.Nat.{ℕ, ◌≤◌}
 use native.Mathlib.Omega.{arith}
 use Rattle.gf2.specs.Rows.{Var}
 use Rattle.gf2.specs.Answers.{Literal, Position}

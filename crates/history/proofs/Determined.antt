@@ -11,7 +11,7 @@ use mathlib.Core.Logic.{◌⊎◌, inl, inr}
 use mathlib.Core.List.{List, [], ◌++◌}
 use lib.ListN.{length, take, drop, take-append-drop, length-take}
 use lib.Dec.{ltb}
-use Prim.Native.Nat.{ℕ, zero, suc, ◌+◌, ◌≤◌}
+use Prim.Native.Nat.{ℕ, zero, suc, ◌≤◌}
 use native.Mathlib.Omega.{arith}
 use borrow.Author.Tests.{ltb-false}
 use Rattle.gf2.specs.Answers.{Position, opened, unsatisfiable, OpenAnswer, AssumeAnswer, held, conflict, implied, ExplainAnswer, Reached}

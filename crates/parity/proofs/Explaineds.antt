@@ -27,7 +27,6 @@ use Rattle.words.specs.Words.{bit_at}
 use Rattle.tableau.specs.Layout.{max_rows, row_at, from_at, last_at, known_at, truth_at, size}
 use Rattle.tableau.specs.Buffer.{basic_at, home_at}
 use Rattle.tableau.specs.View.{vals, Homes}
-use Rattle.tableau.proofs.Reading.{bit-of}
 use Rattle.exchange.specs.Steps.{Found}
 use Rattle.exchange.proofs.Finds.{found_none}
 use Rattle.exchange.proofs.Steps.{known_bit, truth_bit}

@@ -13,7 +13,6 @@ use Prim.Native.Nat.{ℕ, zero, suc, ◌+◌, ◌*◌, ◌<◌, ◌≤◌}
 use native.Mathlib.Omega.{arith}
 use borrow.Author.Tests.{ltb-false}
 use Rattle.gf2.specs.Rows.{Var, Row, Rows, Assignment}
-use Rattle.gf2.specs.Rows as by-list
 use Rattle.gf2.specs.Answers.{start, Solves, opened, unsatisfiable, AnswersOpen}
 use Rattle.gf2.proofs.Scans.{scanned_same}
 use Rattle.gf2.proofs.Values.{Values, known_listed}

@@ -1,5 +1,6 @@
 // The calls: open, assume, back and explain on a header by value and buffers that the caller lends.
 #![tactic(auto)]
+
 ghost use Rattle.std.specs.Prelude.{◌≡◌, ◌+◌, ◌*◌, ◌<◌, ◌≤◌, length};
 ghost use Rattle.judge.specs.Checks.{at_depth};
 ghost use Rattle.tableau.specs.Layout.{max_vars, max_rows, max_taken, size};

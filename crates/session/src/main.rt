@@ -1,10 +1,15 @@
 // The session program: a sheet and commands on standard input, a line for each answer on standard output.
 #![tactic(auto)]
+
 ghost use Rattle.std.specs.Prelude.{◌≤◌, length};
 ghost use Rattle.dialogue.specs.Steps.{room};
 
 use judge::Header;
-use libc::{STDIN_FILENO, STDOUT_FILENO};
+
+// The descriptors of standard input and output.
+const STDIN_FILENO: i32 = 0;
+
+const STDOUT_FILENO: i32 = 1;
 
 // The commands from `first` on, until command 0 or until fewer than two bytes are left.
 fn commands(

@@ -1,0 +1,16 @@
+use Rattle.std.proofs.Common.{arith, rules}
+use Rattle.dialogue.proofs.Cases.{last_kind}
+use Rattle.dialogue.specs.Steps.{ends, assumes, backs, explains}
+use Rattle.dialogue.proofs.turn.Goals as goal
+
+pub returns-in-0 : goal.returns-in-0
+returns-in-0 c = ends c.in-0.is
+
+pub returns-in-1 : goal.returns-in-1
+returns-in-1 c = assumes c.in-1.is c.assume.ensures
+
+pub returns-in-2 : goal.returns-in-2
+returns-in-2 c = backs c.in-2.is c.back.ensures
+
+pub returns-in_default : goal.returns-in_default
+returns-in_default c = explains (last_kind _ (omega arith) (search rules) (search rules) (search rules)) c.explain.ensures
