@@ -15,7 +15,7 @@ use Rattle.format.proofs.Packed.{bit_packed}
 use Rattle.format.proofs.Runs.{get_or-take_past, get_or_pad}
 use Rattle.format.proofs.Undo.{row_packed, row_parity, store_row}
 use Rattle.format.specs.Bits.{odd, bits_of, value_of}
-use Rattle.format.specs.Sheet.{row_of, row_words, packed, clean}
+use Rattle.format.specs.Sheet.{row_of, row_words, packed}
 use Rattle.sheet.proofs.Reader.{read_accepted}
 use Rattle.sheet.specs.Reader.{Reads}
 use Rattle.words.specs.Store.{StoreRead}

@@ -1,5 +1,6 @@
 // The sheet reader and writer: between the bytes of a row sheet and the words of a row store.
 #![tactic(auto)]
+
 ghost use Rattle.std.specs.Prelude.{◌≡◌, [], ◌∷◌, ◌++◌, ◌+◌, ◌*◌, ◌^◌, ◌≤◌, ◌<◌, length, take, drop};
 ghost use Rattle.format.specs.Bits.{bits_of, put_at};
 ghost use Rattle.format.specs.Sheet.{n_of, m_of, bits_for, size_for, row_words, store_words, row_bits, body_bits, sheet_bits, clean_row, clean};

@@ -1,6 +1,7 @@
 // Boundary values of the sheet, run through the reader and the writer. That each answer has the number stated, 0 where nothing is
 // refused, is proved of the promise, and checked again when the program runs.
 #![tactic(auto)]
+
 ghost use Rattle.std.specs.Prelude.{◌≡◌, ◌≤◌, take, set, replicate};
 ghost use Rattle.sheet.specs.Reader as readers;
 ghost use Rattle.sheet.specs.Writer as writers;
