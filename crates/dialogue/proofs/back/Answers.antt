@@ -1,6 +1,7 @@
 use Rattle.std.proofs.Common.{refl}
 use Rattle.dialogue.proofs.back.Goals as goal
 
+-- the line is that of the number and the depth that going back has left
 pub returns : goal.returns
 returns c =
     let l = c.line_of_backing-end in

@@ -5,6 +5,7 @@ use Rattle.exchange.proofs.Partners.{lack_made, scan_start, scan_end, scan_top, 
 use Rattle.exchange.proofs.partner.Goals as goal
 use Rattle.exchange.proofs.partner.Goals.{In-loop-rest}
 
+-- something is left, and its top one is a digit of the word
 some : (c : In-loop-rest) → 0 < c.loop-rest.rest
 some c = omega (arith, c.loop-rest-test.true)
 

@@ -7,6 +7,7 @@ use Rattle.exchange.proofs.Passes.{turned_idle, turned_after}
 use Rattle.exchange.proofs.turn_block.Goals as goal
 use Rattle.exchange.proofs.turn_block.Goals.{In-loop-rest}
 
+-- something is left: its top one is a digit of the word, and the row of that is one of the block and has the variable
 some : (c : In-loop-rest) → 0 < c.loop-rest.rest
 some c = omega (arith, c.loop-rest-test.true)
 

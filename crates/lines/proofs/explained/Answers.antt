@@ -1,3 +1,4 @@
+-- The seven texts, one after another, are the line. Before the last call the early facts lie too far back for `search`.
 use Rattle.std.proofs.Common.{arith}
 use Rattle.lines.specs.Lines.{spaced}
 use Rattle.lines.proofs.Puts.{put_then, put_text, flat}

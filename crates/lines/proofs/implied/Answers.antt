@@ -1,3 +1,4 @@
+-- The four texts, one after another, are the line; its count is the length of its list.
 use Rattle.std.proofs.Common.{length-take-le}
 use Rattle.lines.specs.Lines.{spaced}
 use Rattle.lines.proofs.Puts.{put_then, put_text, flat}

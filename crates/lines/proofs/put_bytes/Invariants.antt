@@ -1,3 +1,4 @@
+-- The loop's invariant: the first i bytes stand where they go.
 use Rattle.std.proofs.Common.{length, take, ◌+◌, ◌-◌, ◌≤◌}
 use Rattle.lines.specs.Lines.{Put}
 use Rattle.lines.proofs.put_bytes.Given as goal

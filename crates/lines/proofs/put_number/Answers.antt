@@ -1,3 +1,4 @@
+-- The digits that `io::decimal` gives are `dec n`, at most 20.
 use Rattle.std.proofs.Common.{arith, rules}
 use Rattle.lines.specs.Lines.{dec}
 use Rattle.lines.proofs.Decimal.{fewest_dec, fewest_room}

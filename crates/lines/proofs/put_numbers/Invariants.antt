@@ -1,3 +1,4 @@
+-- The loop's invariant: the first i numbers stand where they go, each in at most 21 bytes.
 use Rattle.std.proofs.Common.{map, take, ◌*◌, ◌+◌, ◌-◌, ◌≤◌}
 use Rattle.lines.specs.Lines.{Put, dec, spaced}
 use Rattle.lines.proofs.put_numbers.Given as goal

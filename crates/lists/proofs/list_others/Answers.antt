@@ -6,6 +6,7 @@ use Rattle.lists.proofs.ByWord.{others, Step, scan_start, scan_end, other_step}
 use Rattle.lists.proofs.list_others.Goals as goal
 use Rattle.lists.proofs.list_others.Goals.{After-list_word-arg-1}
 
+-- the turn of the loop
 more : (c : After-list_word-arg-1)
     → let a = c.args in
     let l = c.loop-w in

@@ -5,6 +5,7 @@ use Rattle.lists.proofs.ByWord.{rows, Step, scan_start, scan_end, row_step}
 use Rattle.lists.proofs.list_rows.Goals as goal
 use Rattle.lists.proofs.list_rows.Goals.{After-list_word-arg-1}
 
+-- the turn of the loop
 more : (c : After-list_word-arg-1)
     → let a = c.args in
     let l = c.loop-w in

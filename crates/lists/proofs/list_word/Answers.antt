@@ -6,6 +6,7 @@ use Rattle.lists.proofs.Digits.{item_le, rest_start, rest_room, rest_next, rest_
 use Rattle.lists.proofs.list_word.Goals as goal
 use Rattle.lists.proofs.list_word.Goals.{In-loop-rest}
 
+-- something is left: its top one is a digit of the word, its item is small, and there is room for it
 some : (c : In-loop-rest) → 0 < c.loop-rest.rest
 some c = omega (arith, c.loop-rest-test.true)
 

@@ -8,6 +8,7 @@ use Rattle.parity.proofs.Assumed.{promise_refused, promise_held, promise_conflic
 use Rattle.parity.proofs.assume.Goals as goal
 use Rattle.parity.proofs.assume.Goals.{Else-number-ne0}
 
+-- nothing is refused
 passed : (c : Else-number-ne0) → refusal (assume_checks c.args.h (length c.args.work.now) (length c.args.literals.now) c.args.code) ≡ 0
 passed c = sym c.judge_assume-number.ensures ∙ c.if-number-ne0.false
 

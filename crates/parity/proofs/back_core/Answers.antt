@@ -7,6 +7,7 @@ use Rattle.parity.proofs.Going.{back_stands}
 use Rattle.parity.proofs.back_core.Goals as goal
 use Rattle.parity.proofs.back_core.Goals.{Else-number-ne0}
 
+-- what the judge let pass
 judged : (c : Else-number-ne0) → Fit c.args.h × (size ≤ length c.args.work.now) × (c.args.depth ≤ c.args.h.depth)
 judged c = let a = c.args in back_judged a.h (length a.work.now) a.depth (sym c.judge_back-number.ensures ∙ c.if-number-ne0.false)
 

@@ -8,6 +8,7 @@ use Rattle.parity.proofs.Explaineds.{promise_denied, promise_no_value, promise_a
 use Rattle.parity.proofs.explain.Goals as goal
 use Rattle.parity.proofs.explain.Goals.{Else-number-ne0}
 
+-- nothing is refused by the checks
 passed : (c : Else-number-ne0) → let a = c.args in refusal (explain_checks a.h (length a.work.now) (length a.clause.now) (length a.rows.now) a.v) ≡ 0
 passed c = sym c.judge_explain-number.ensures ∙ c.if-number-ne0.false
 

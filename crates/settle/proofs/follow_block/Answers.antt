@@ -6,6 +6,7 @@ use Rattle.settle.proofs.Blocks.{followed_idle, followed_apart, block_start, blo
 use Rattle.settle.proofs.follow_block.Goals as goal
 use Rattle.settle.proofs.follow_block.Goals.{In-loop-rest}
 
+-- something is left: its top one is a digit of the word, and the row of that is one of the block and has the variable
 some : (c : In-loop-rest) → 0 < c.loop-rest.rest
 some c = omega (arith, c.loop-rest-test.true)
 

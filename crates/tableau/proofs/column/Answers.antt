@@ -3,6 +3,7 @@ use Rattle.tableau.proofs.Columns.{gathered_none, gathered_small, gathered_join,
 use Rattle.tableau.proofs.column.Goals as goal
 use Rattle.tableau.proofs.column.Goals.{After-four, In-loop-r}
 
+-- there is room for eight digits more, and four rows have four
 small : (c : In-loop-r) → c.loop-r.x < 2 ^ 56
 small c = gathered_small _ _ _ _ _ 56 (omega arith) c.loop-r.invariant.3
 
