@@ -16,7 +16,7 @@ use native.Mathlib.Omega.{arith}
 use lib.ListN.{drop, length, take, length-append, get_or, length-take, replicate, length-replicate, get_or-append}
 use lib.Pow.{pow_pos}
 use lib.Seq.{take_all, take_at, take-append-le, get_or-drop, get_or-append-add, drop_at}
-use Rattle.format.proofs.Bytes.{take-bits, drop_bits, bytes_same, cut}
+use Rattle.format.proofs.Bytes.{take-bits, drop_bits, bytes_same}
 use Rattle.format.proofs.Digits.{length-bits_n, bits_n-mod, bits_n-cat, take-bits_n, get_or-bits_n, bits_n-zero}
 use Rattle.format.proofs.Puts.{put_at-next}
 use Rattle.format.proofs.Runs.{take_min, take-append}

@@ -2,7 +2,7 @@
 --   positive, accepted       no check has the number 0, so where there is no refusal, no check holds
 --   without, never           no check that holds has the number k, so no refusal has it
 --   append-some, append-none  more checks after these: they are reached only where none of these holds
---   either-.., none_either   one of two conditions holds; neither does
+--   either_.., none_either   one of two conditions holds; neither does
 -- Assumes nothing.
 use mathlib.Core.Path.{◌≡◌, refl, ◌∙◌}
 use mathlib.Core.Bool.{Bool, true, false, not, ◌||◌, ◌&&◌, true≢false, false≢true, cond}

@@ -1,4 +1,4 @@
--- BITS OF BYTES (document 01, "The row sheet": bit_packed, most significant bit first).
+-- BITS OF BYTES (document 01, "The row sheet": bit-packed, most significant bit first).
 --   bit_val b       the digit of a bit: 1 or 0
 --   odd v          the lowest binary digit of v
 --   bits_n k v      the k lowest binary digits of v, the highest first

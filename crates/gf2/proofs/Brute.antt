@@ -9,7 +9,7 @@ use mathlib.Core.Option.{Option, none, some}
 use mathlib.Core.List.{List, [], ◌∷◌, ◌++◌, map}
 use lib.ListN.{length}
 use lib.Dec.{eqb}
-use Prim.Native.Nat.{ℕ, zero, suc, ◌+◌, ◌*◌}
+use Prim.Native.Nat.{ℕ, zero, suc, ◌*◌}
 use Rattle.gf2.specs.Field.{same}
 use Rattle.gf2.specs.Rows.{Row, Assignment, row_sum, Numbered, Rows, total, Outcome, passed, failed}
 use Rattle.gf2.specs.Answers.{code, variable, value, negation, literal_row, literals, Position, start, assumed, OpenAnswer, unsatisfiable, opened, AssumeAnswer, held, conflict, implied, ExplainAnswer}

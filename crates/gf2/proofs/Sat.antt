@@ -1,14 +1,14 @@
 -- ROWS AND THEIR SUMS: linear in the row and in the assignment.
 --   vsum n f          f 1 ⊕ f 2 ⊕ … ⊕ f n
 --   find_var          some variable has P, or all have Q
---   row-.., value-..  the sum of a row, as a function of the row and of the assignment
---   total-..          the sum of a list of rows: it holds wherever they do
+--   row_.., value_..  the sum of a row, as a function of the row and of the assignment
+--   total_..          the sum of a list of rows: it holds wherever they do
 -- Assumes nothing.
 use mathlib.Core.Path.{◌≡◌, refl, sym, ap, ap₂, ◌∙◌}
 use mathlib.Core.Bool.{Bool, true, false, ◌&&◌, and_comm, and_assoc}
 use mathlib.Core.List.{List, [], ◌∷◌, ◌++◌}
 use mathlib.Core.Logic.{◌⊎◌, inl, inr}
-use Prim.Native.Nat.{ℕ, zero, suc, ◌+◌, ◌<◌}
+use Prim.Native.Nat.{ℕ, zero, suc, ◌<◌}
 use native.Mathlib.Nat.{not-suc-le-zero, zero-lt-suc}
 use Rattle.gf2.specs.Field.{◌⊕◌, xsum, same}
 use Rattle.gf2.specs.Lists.{All, Part, stop, take, skip}

@@ -2,7 +2,7 @@
 --   and_both .. eqb_other      tests and what they say
 --   agree_same, same_agree     equal coefficients, as a test
 --   every_true, every_false    all assignments
---   from-..                    listings
+--   from_..                    listings
 -- Assumes nothing.
 use mathlib.Core.Path.{◌≡◌, refl, sym, ap, ◌∙◌}
 use mathlib.Core.Bool.{Bool, true, false, not, ◌&&◌, cond, beq, true≢false, false≢true}

@@ -1,6 +1,6 @@
 -- AN EXCHANGE of two variables that have no value keeps the values settled: what assuming a basic variable does first.
 --   at_or_not                     at one row, and at any other
---   repoint-.., pivot_keeps       what changes and what does not
+--   repoint_.., pivot_keeps       what changes and what does not
 --   exchange_settled
 -- Assumes nothing.
 use mathlib.Core.Path.{◌≡◌, sym, ◌∙◌, subst, fun_ext}

@@ -1,7 +1,7 @@
 -- A NEW ROW into a tableau, and where the rows come from.
---   extend-.., reduce-..          one row more; a row with its basic variables removed
+--   extend_.., reduce_..          one row more; a row with its basic variables removed
 --   insert_tableau, insert_sat    the tableau and its solutions afterwards
---   combine-..                    sums of sums
+--   combine_..                    sums of sums
 --   pivot_provenance, reduce_provenance   where the rows come from; reason: the other variables of a row that gives a value are assumed
 -- Assumes nothing.
 use mathlib.Core.Path.{◌≡◌, sym, ap, ap₂, ◌∙◌, fun_ext}

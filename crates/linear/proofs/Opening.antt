@@ -1,6 +1,6 @@
 -- OPENING, one row of the sheet after another: what is left of a row when it is reduced decides whether it is kept, redundant or contradictory.
 --   reduce_more                                  one turn of the loop that reduces a row
---   span-..                                      sums of rows
+--   span_..                                      sums of rows
 --   built_none, skip_built, fails, insert_built  the start, and the three ways of a row
 --   no_failure                                   no row before fails
 --   taken_none                                   nothing is taken at the end

@@ -1,6 +1,6 @@
 -- SUMS OF SUMS; the rows that a tableau was built from have its solutions.
---   span-..                        sums of spanned rows
---   earlier-..                     selections of kept rows
+--   span_..                        sums of spanned rows
+--   earlier_..                     selections of kept rows
 --   built_sat, implied_sheet       the same solutions, the same implied values
 --   pivot_span                     the rows before an exchange are sums of those after it
 -- Assumes nothing.

@@ -1,6 +1,6 @@
 -- THE FIRST 4,096 WORDS OF A WORKING BUFFER, worked on by themselves.
 --   front_long, front_bit   they are 4,096; their bits are the buffer's, and (front_home) their homes
---   replaced-..             the buffer with other words in their place: its front, its length and its rest
+--   replaced_..             the buffer with other words in their place: its front, its length and its rest
 -- Assumes nothing.
 use mathlib.Core.Path.{◌≡◌, sym, ap, ◌∙◌}
 use mathlib.Core.List.{List, ◌++◌}

@@ -3,7 +3,7 @@
 --   settled         THE STATEMENT: every answer of the table is right where it is given
 --   all_accepted    the reader refuses no sheet of the table
 --   five_says ..    a sheet's rows are the constraints that document 01 gives for it
---   wide-..         two constraints that differ past their first 64 columns: satisfiable, both kept
+--   wide_..         two constraints that differ past their first 64 columns: satisfiable, both kept
 -- Assumes nothing.
 use mathlib.Core.Path.{◌≡◌, refl, sym, ap, ap₂, ◌∙◌}
 use mathlib.Core.Option.{Option, none, some}

@@ -29,7 +29,7 @@ because clause numbers = record { clause = clause; numbers = numbers }
 abbrev pub sheet : List ℕ → OpenAnswer → Event
 sheet bytes answer = opens (n_of bytes) (sheet_rows bytes) answer
 
--- `00 C0 5E C0`: document 003, example 5. `01 80 72 D6 1A`: system system_b, document 003, example 6. `00 00 00`, `00 00 20`, `00 00 30`.
+-- `00 C0 5E C0`: document 003, example 5. `01 80 72 D6 1A`: system B, document 003, example 6. `00 00 00`, `00 00 20`, `00 00 30`.
 abbrev pub five_sheet : List ℕ
 five_sheet = 0 ∷ 192 ∷ 94 ∷ 192 ∷ []
 
