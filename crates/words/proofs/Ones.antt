@@ -18,7 +18,7 @@ use native.Mathlib.Omega.{arith}
 use lib.Bits.{bit_xor, xor_block, xor_self, xor_zero_r, shifted_even}
 use lib.Count.{count_leading_zeros, leading_top}
 use lib.Pow.{pow_pos, pow_mono, pow-lt, pow-add, shr-shr, shl-shr, low, field, mod-mod-pow}
-use Rattle.words.specs.Words.{digit, bit_of, bit_at, Lowest}
+use Rattle.words.specs.Words.{digit, bit_of, bit_at, IsLowest}
 use Rattle.words.proofs.Bits.{zero_bits, bit_front, lowest_found}
 
 -- ---- digits shifted up
@@ -46,17 +46,17 @@ module _ (rest : ℕ) (pos : 0 < rest) (fits : rest < 2 ^ 64) where
   abbrev zeros : ℕ
   zeros = count_leading_zeros 64 rest
 
-  found : Lowest 1 (rest ∷ []) (0 * 64 + zeros + 1)
+  found : IsLowest 1 (rest ∷ []) (0 * 64 + zeros + 1)
   found = lowest_found (rest ∷ []) 0 pos fits 1 (omega arith) (λ j l. absurd (not-suc-le-zero l))
 
   pub zeros_lt : count_leading_zeros 64 rest < 64
-  zeros_lt = omega (arith, found.upto)
+  zeros_lt = omega (arith, found.last)
 
   in_list : (i : ℕ) → i < 64 → bit_of rest (63 - i) ≡ bit_at (rest ∷ []) 0 i
   in_list i l = let e : 0 * 64 + i ≡ i = omega arith in sym (bit_front (rest ∷ []) 0 i l) ∙ ap (bit_at (rest ∷ []) 0) e
 
   pub top_one : bit_of rest (63 - count_leading_zeros 64 rest) ≡ true
-  top_one = in_list zeros zeros_lt ∙ found.some zeros (omega arith)
+  top_one = in_list zeros zeros_lt ∙ ap (bit_at (rest ∷ []) 0) (let q : zeros ≡ 0 * 64 + zeros + 1 - 1 = omega arith in q) ∙ found.has
 
   pub above_top : (i : ℕ) → i < count_leading_zeros 64 rest → bit_of rest (63 - i) ≡ false
   above_top i l = in_list i (omega (arith, zeros_lt)) ∙ found.under i (omega arith)

@@ -6,31 +6,14 @@ ghost use Rattle.std.specs.Int.Bits.{bit_and, bit_xor};
 ghost use Rattle.gf2.specs.Field.{xsum};
 ghost use Rattle.words.specs.Words.{bit_at, xor_words, own_word, Lowest};
 
-// The words of b are added into those of a, of which there are as many.
-fn add_into(a: &mut [u64], b: &[u64])
-    requires { length a.old ≡ length b.now }
-    ensures { a.new ≡ xor_words a.old b.now }
+// The sum of two rows, or of their provenance.
+pub fn sum<const W: usize>(a: [u64; W], b: [u64; W]) -> [u64; W]
+    ensures { result ≡ xor_words a.entry b.entry }
 {
-    for i in 0..b.len() {
-        a[i] = a[i] ^ b[i];
+    let mut out = a;
+    for i in 0..W {
+        out[i] ^= b[i];
     }
-}
-
-// The sum of two rows.
-pub fn sum(a: [u64; 8], b: [u64; 8]) -> [u64; 8]
-    ensures { result ≡ xor_words a b }
-{
-    let mut out = a;
-    add_into(&mut out, &b);
-    out
-}
-
-// The sum of the provenance of two rows.
-pub fn sum_from(a: [u64; 4], b: [u64; 4]) -> [u64; 4]
-    ensures { result ≡ xor_words a b }
-{
-    let mut out = a;
-    add_into(&mut out, &b);
     out
 }
 
@@ -38,30 +21,23 @@ pub fn sum_from(a: [u64; 4], b: [u64; 4]) -> [u64; 4]
 pub fn odd(row: [u64; 8], truth: [u64; 8]) -> bool
     ensures { result ≡ xsum 512 (λ i. bit_at row 0 i && bit_at truth 0 i) }
 {
-    let mut n: u64 = 0;
-    let mut i: usize = 0;
-    while i < 8 {
-        n += u64::count_ones(row[i] & truth[i]) as u64;
-        i += 1;
+    let mut ones = 0;
+    for i in 0..8 {
+        ones += (row[i] & truth[i]).count_ones();
     }
-    n % 2 == 1
+    ones % 2 == 1
 }
 
-// The lowest variable of a row, or 0.
-pub fn lowest(row: [u64; 8]) -> usize
+// The lowest variable of a row.
+pub fn lowest(row: [u64; 8]) -> Option<usize>
     ensures { Lowest 8 row result }
 {
-    let mut i: usize = 0;
-    'found: loop {
-        if i == 8 {
-            return 0;
+    for (i, word) in row.iter().enumerate() {
+        if *word != 0 {
+            return Some(i * 64 + word.leading_zeros() as usize + 1);
         }
-        if row[i] != 0 {
-            break 'found;
-        }
-        i += 1;
     }
-    i * 64 + u64::leading_zeros(row[i]) as usize + 1
+    None
 }
 
 // Word j of the row that has the variable v alone.
