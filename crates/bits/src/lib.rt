@@ -4,20 +4,6 @@
 ghost use Rattle.std.specs.Prelude.{◌≡◌, ◌+◌, ◌-◌, ◌*◌, ◌/◌, ◌%◌, ◌^◌, ◌≤◌, ◌<◌, min, length, take, drop};
 ghost use Rattle.format.specs.Bits.{bits_of, bits_n, value_of, put_at};
 
-// The smaller of two numbers.
-pub fn shorter(a: usize, b: usize) -> usize
-    ensures { result ≡ min a b }
-{
-    if a < b { a } else { b }
-}
-
-// A byte as a word.
-fn wide(b: u8) -> u64
-    ensures { result ≡ b }
-{
-    b as u64
-}
-
 // v, k bits up. (A machine shifts by less than 64 only.)
 pub fn raised(v: u64, k: usize) -> u64
     requires { k ≤ 64 }
@@ -47,7 +33,7 @@ pub fn piece(b: u8, off: usize, t: usize) -> u64
     requires { off + t ≤ 8 }
     ensures { result ≡ b / 2 ^ (8 - off - t) % 2 ^ t }
 {
-    (wide(b) >> (8 - off - t)) & ((1 << t) - 1)
+    (u64::from(b) >> (8 - off - t)) & ((1 << t) - 1)
 }
 
 // The byte y, with the t bits past its first off replaced by p.
@@ -55,33 +41,19 @@ pub fn patched(y: u8, p: u64, off: usize, t: usize) -> u8
     requires { (off + t ≤ 8) × (p < 2 ^ t) }
     ensures { result ≡ (y / 2 ^ (8 - off) * 2 ^ t + p) * 2 ^ (8 - off - t) + y % 2 ^ (8 - off - t) }
 {
-    let w = wide(y);
+    let w = u64::from(y);
     let sh = 8 - off - t;
     let top = ((w >> (8 - off)) << t) | p;
     let x = (top << sh) | (w & ((1 << sh) - 1));
     x as u8
 }
 
-// The byte b behind the bits of v.
-fn joined_byte(v: u64, b: u8) -> u64
-    requires { v < 2 ^ 56 }
-    ensures { result ≡ v * 2 ^ 8 + b }
-{
-    (v << 8) | wide(b)
-}
-
-// The 64 bits from byte q on. (A compiler makes one load of this loop.)
+// The 64 bits from byte q on.
 fn word(s: &[u8], q: usize) -> u64
     requires { q + 8 ≤ length s.now }
     ensures { result ≡ value_of (take 64 (drop (8 * q) (bits_of s.now))) }
 {
-    let mut v: u64 = 0;
-    let mut i: usize = 0;
-    while i < 8 {
-        v = joined_byte(v, s[q + i]);
-        i += 1;
-    }
-    v
+    u64::from_be_bytes(*s[q..].first_chunk().unwrap())
 }
 
 // The 64 bits from bit off of byte q on.
@@ -90,15 +62,8 @@ pub fn window(s: &[u8], q: usize, off: usize) -> u64
     ensures { result ≡ value_of (take 64 (drop (8 * q + off) (bits_of s.now))) }
 {
     let w = word(s, q);
-    let b = wide(s[q + 8]);
+    let b = u64::from(s[q + 8]);
     (w << off) | (b >> (8 - off))
-}
-
-// The lowest eight bits of v.
-fn low_byte(v: u64) -> u8
-    ensures { result ≡ v % 2 ^ 8 }
-{
-    (v & 255) as u8
 }
 
 // Puts the 64 bits of v from byte q on.
@@ -106,12 +71,7 @@ fn put_word(s: &mut [u8], q: usize, v: u64)
     requires { q + 8 ≤ length s.old }
     ensures { bits_of s.new ≡ put_at (bits_of s.old) (8 * q) (bits_n 64 v) }
 {
-    let mut i: usize = 0;
-    while i < 8 {
-        let x = low_byte(v >> (56 - 8 * i));
-        s[q + i] = x;
-        i += 1;
-    }
+    s[q..q + 8].copy_from_slice(&v.to_be_bytes());
 }
 
 // The first off bits of y, and v behind them.
@@ -119,7 +79,7 @@ fn headed(y: u8, off: usize, v: u64) -> u64
     requires { off < 8 }
     ensures { result ≡ y / 2 ^ (8 - off) * 2 ^ (64 - off) + v / 2 ^ off }
 {
-    let first = wide(y) >> (8 - off);
+    let first = u64::from(y) >> (8 - off);
     // With off = 0 the shift would be by 64, which a machine does not do. It is by 64 % 64, which is 0, and first is 0 then.
     (first << ((64 - off) % 64)) | (v >> off)
 }

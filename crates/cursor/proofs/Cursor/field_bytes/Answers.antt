@@ -13,7 +13,7 @@ pub loop-done-preserved : goal.loop-done-preserved
 loop-done-preserved c =
     let a = c.args in
     let l = c.loop-done in
-    let t = c.shorter-t.result in
+    let t = c.min-t.result in
     let i = a.self.at + l.done in
     let hp : c.piece-p.result < 2 ^ t = rw c.piece-p.ensures (mod-lt (get_or a.s.now (i / 8) 0 / 2 ^ (8 - i % 8 - t)) (pow_pos t)) in
     let hv : l.value < 2 ^ l.done = rw l.invariant.1 (field_lt l.done a.self.at (bits_of a.s.now) (rw length-bits_of (omega arith))) in (

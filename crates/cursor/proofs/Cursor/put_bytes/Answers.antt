@@ -3,26 +3,26 @@ use Rattle.bits.proofs.Masks.{mask, one_le_shl}
 use Rattle.format.proofs.Bytes.{length-bits_of}
 use Rattle.format.proofs.Puts.{put_at-none, put_step}
 use Rattle.format.specs.Bits.{bits_n, bits_of, put_at}
-use Rattle.cursor.proofs.Cursor.put.Goals as goal
+use Rattle.cursor.proofs.Cursor.put_bytes.Goals as goal
 
 pub loop-done-init : goal.loop-done-init
 unfolding bits_n
 loop-done-init c = (search rules, refl, put_at-none (bits_of c.args.s.now) c.args.self.at)
 
 pub overflow_sub-p-in-loop-done-2 : goal.overflow_sub-p-in-loop-done-2
-overflow_sub-p-in-loop-done-2 c = one_le_shl c.shorter-t.result (omega arith)
+overflow_sub-p-in-loop-done-2 c = one_le_shl c.min-t.result (omega arith)
 
 pub patched-x-requires : goal.patched-x-requires
 patched-x-requires c =
     let a = c.args in
-    let k = a.count - c.loop-done.done - c.shorter-t.result in
-    (search rules, rw (mask (a.value / 2 ^ k) c.shorter-t.result (omega arith)) (mod-lt (a.value / 2 ^ k) (pow_pos c.shorter-t.result)))
+    let k = a.count - c.loop-done.done - c.min-t.result in
+    (search rules, rw (mask (a.value / 2 ^ k) c.min-t.result (omega arith)) (mod-lt (a.value / 2 ^ k) (pow_pos c.min-t.result)))
 
 pub loop-done-preserved : goal.loop-done-preserved
 loop-done-preserved c =
     let a = c.args in
     let l = c.loop-done in
-    let t = c.shorter-t.result in
+    let t = c.min-t.result in
     let i = a.self.at + l.done in
     let y = get_or l.s (i / 8) 0 in
     let n = a.count - l.done - t in

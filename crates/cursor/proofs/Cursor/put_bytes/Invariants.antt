@@ -1,6 +1,6 @@
 use Rattle.std.proofs.Common.{length, ◌-◌, ◌/◌, ◌^◌, ◌≡◌, ◌≤◌}
 use Rattle.format.specs.Bits.{bits_n, bits_of, put_at}
-use Rattle.cursor.proofs.Cursor.put.Given as goal
+use Rattle.cursor.proofs.Cursor.put_bytes.Given as goal
 
 abbrev pub invariant-loop-done : goal.invariant-loop-done
 invariant-loop-done l =
