@@ -1,3 +1,4 @@
+pub mod Shape
 pub mod Reader
 pub mod Rewriter
 pub mod Writer

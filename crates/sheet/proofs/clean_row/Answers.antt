@@ -7,7 +7,7 @@ use Rattle.sheet.proofs.clean_row.Goals as goal
 pub loop-w-init : goal.loop-w-init
 loop-w-init c =
     let a = c.args in
-    (search rules, omega arith, search rules, past_none a.n (a.n / 64) (drop a.base a.store.now) (omega arith))
+    (omega arith, search rules, past_none a.shape.n (a.shape.n / 64) (drop a.base a.store.now) (omega arith))
 
 pub returns-then-past-gt0 : goal.returns-then-past-gt0
 returns-then-past-gt0 c =
@@ -15,7 +15,7 @@ returns-then-past-gt0 c =
     let l = c.loop-w in
     let ws = drop a.base a.store.now in
     let e : c.raised-past.result ≡ get_or ws l.w 0 * 2 ^ l.left % 2 ^ 64 = c.raised-past.ensures ∙ ap (λ (v : ℕ). v * 2 ^ l.left % 2 ^ 64) (sym (get_or-drop a.base a.store.now l.w 0)) in
-    sym (row_spoiled a.n l.w l.left c.raised-past.result ws l.invariant.1 l.invariant.2 e (omega arith) (omega arith))
+    sym (row_spoiled a.shape.n l.w l.left c.raised-past.result ws l.invariant.0 l.invariant.1 e (omega arith) (omega arith))
 
 pub loop-w-preserved : goal.loop-w-preserved
 loop-w-preserved c =
@@ -23,7 +23,7 @@ loop-w-preserved c =
     let l = c.loop-w in
     let ws = drop a.base a.store.now in
     let e : c.raised-past.result ≡ get_or ws l.w 0 * 2 ^ l.left % 2 ^ 64 = c.raised-past.ensures ∙ ap (λ (v : ℕ). v * 2 ^ l.left % 2 ^ 64) (sym (get_or-drop a.base a.store.now l.w 0)) in
-    (search rules, omega arith, search rules, rw add-one (past_more a.n l.w l.left c.raised-past.result ws l.invariant.1 l.invariant.2 e l.invariant.3 (omega arith)))
+    (omega arith, search rules, rw add-one (past_more a.shape.n l.w l.left c.raised-past.result ws l.invariant.0 l.invariant.1 e l.invariant.2 (omega arith)))
 
 pub returns : goal.returns
 returns c =
@@ -31,5 +31,5 @@ returns c =
     let l = c.loop-w in
     let ws = drop a.base a.store.now in
     let w8 : l.w ≡ 8 = omega arith in
-    let z : value_of (drop a.n (packed 8 ws)) ≡ 0 = ap (λ (k : ℕ). value_of (drop a.n (packed k ws))) (sym w8) ∙ l.invariant.3 in
-    sym (row_cleaned a.n ws z ∙ ap (λ (v : ℕ). ltb v 2) (get_or-drop a.base a.store.now 8 0))
+    let z : value_of (drop a.shape.n (packed 8 ws)) ≡ 0 = ap (λ (k : ℕ). value_of (drop a.shape.n (packed k ws))) (sym w8) ∙ l.invariant.2 in
+    sym (row_cleaned a.shape.n ws z ∙ ap (λ (v : ℕ). ltb v 2) (get_or-drop a.base a.store.now 8 0))
