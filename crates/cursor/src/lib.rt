@@ -5,6 +5,10 @@ ghost use Rattle.std.specs.Prelude.{◌≡◌, ◌+◌, ◌*◌, ◌^◌, ◌≤
 ghost use Rattle.format.specs.Bits.{bits_of, bits_n, value_of, put_at};
 ghost use Rattle.format.specs.Sheet.{n_of, m_of, bits_for, size_for};
 
+pub use shape::Shape;
+
+mod shape;
+
 // How many bits stand before it.
 #[derive(Clone, Copy)]
 pub struct Cursor {

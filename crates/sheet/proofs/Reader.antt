@@ -1,27 +1,19 @@
 -- LAWS OF THE READER'S PROMISE.
---   shapes_same       two shapes with the same numbers are the same
 --   number_reading    the number of the answer is that of the first check that holds
 --   reading_is        the answer by the checks that follow the first
 --   read_accepted     what a sheet is that is read
 --   read_determined   two results that the promise allows are the same
 -- Assumes nothing.
 use Rattle.std.proofs.Common.{◌≡◌, List, length, Result, Ok, ℕ, ◌≤◌, refl, sym, ap, ◌∙◌}
-use Rattle.std.proofs.Math.Bridge.{le_prop}
-use mathlib.Core.HLevel.{is_prop→PathP}
 use Rattle.format.proofs.Accepted.{later, first_passed, Accepted, accepted}
 use Rattle.format.proofs.Answering.{answered_is, answers_same}
 use Rattle.format.specs.Refusals.{refusal, answered, Answers}
 use Rattle.format.specs.Sheet.{n_of, m_of, reader}
 use Rattle.format.specs.declared.Refusal.{Refusal}
+use Rattle.cursor.proofs.Shapes.{shapes_same}
 use Rattle.sheet.specs.Reader.{IsReading, stored, Reads}
-use Rattle.sheet.specs.Shape.{HasNumbers}
-use Rattle.sheet.specs.declared.shape.Shape.{Shape}
-
-pub shapes_same : (n m : ℕ) (a b : Shape) → HasNumbers n m a → HasNumbers n m b → a ≡ b
-shapes_same n m a b h g =
-    let p = h.n_is ∙ sym g.n_is in
-    let q = h.m_is ∙ sym g.m_is in
-    λ i. record { n = p i; m = q i; n_fits = is_prop→PathP (λ j. p j ≤ 512) (λ j. le_prop) a.n_fits b.n_fits i; m_fits = is_prop→PathP (λ j. q j ≤ 256) (λ j. le_prop) a.m_fits b.m_fits i }
+use Rattle.cursor.specs.Shape.{HasNumbers}
+use Rattle.cursor.specs.declared.shape.Shape.{Shape}
 
 pub number_reading : (s : List ℕ) (room : ℕ) (a : Result Shape Refusal) → IsReading s room a → answered a ≡ refusal (reader s room)
 number_reading s room a h = answered_is (refusal (reader s room)) (HasNumbers (n_of s) (m_of s)) a h

@@ -22,11 +22,11 @@ use Rattle.std.specs.Prelude.{Result, Ok, Err}
 use Rattle.format.proofs.Answering.{number_pos, answers_same}
 use Rattle.format.specs.declared.Refusal.{Refusal}
 use Rattle.format.specs.declared.Refusal.TheVariants.{ShortAnswer}
-use Rattle.sheet.proofs.Reader.{shapes_same}
+use Rattle.cursor.proofs.Shapes.{shapes_same}
 use Rattle.sheet.specs.Reader.{IsReading, stored}
-use Rattle.sheet.specs.Shape.{HasNumbers}
+use Rattle.cursor.specs.Shape.{HasNumbers}
 use Rattle.sheet.specs.Rewriter.{rewriter, copied, Rewrites}
-use Rattle.sheet.specs.declared.shape.Shape.{Shape}
+use Rattle.cursor.specs.declared.shape.Shape.{Shape}
 
 module _ (s : List ℕ) (words bytes : ℕ) where
   pub again_refused : (r : Refusal) → IsReading s words (Err r) → Answers (refusal (rewriter s words bytes)) (HasNumbers (n_of s) (m_of s)) (Err r)

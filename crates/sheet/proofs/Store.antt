@@ -21,7 +21,7 @@ use Rattle.sheet.proofs.Reader.{read_accepted}
 use Rattle.sheet.specs.Reader.{Reads}
 use Rattle.words.specs.Store.{StoreRead}
 use Rattle.words.specs.Words.{digit, bit_at}
-use Rattle.sheet.specs.declared.shape.Shape.{Shape}
+use Rattle.cursor.specs.declared.shape.Shape.{Shape}
 
 -- the two readings of a digit
 digit_odd : (v : ℕ) → digit (v % 2) ≡ odd v

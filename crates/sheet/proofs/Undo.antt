@@ -22,12 +22,13 @@ use Rattle.format.specs.Sheet.{n_of, m_of, size_for, reader, store_words, sheet_
 use Rattle.std.specs.Prelude.{Result, Ok}
 use Rattle.format.proofs.Answering.{answers_same}
 use Rattle.format.specs.declared.Refusal.{Refusal}
-use Rattle.sheet.proofs.Reader.{shapes_same, reading_is, read_accepted}
+use Rattle.cursor.proofs.Shapes.{shapes_same}
+use Rattle.sheet.proofs.Reader.{reading_is, read_accepted}
 use Rattle.sheet.proofs.Writer.{write_accepted}
 use Rattle.sheet.specs.Reader.{IsReading, stored, Reads}
-use Rattle.sheet.specs.Shape.{HasNumbers}
+use Rattle.cursor.specs.Shape.{HasNumbers}
 use Rattle.sheet.specs.Writer.{IsWriting, Writes}
-use Rattle.sheet.specs.declared.shape.Shape.{Shape}
+use Rattle.cursor.specs.declared.shape.Shape.{Shape}
 
 pub accepted_read : (s : List ℕ) (room : ℕ) (h : Shape) → Accepted s room h.n h.m → IsReading s room (Ok h)
 accepted_read s room h k =

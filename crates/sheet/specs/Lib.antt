@@ -1,4 +1,3 @@
-pub mod Shape
 pub mod Reader
 pub mod Rewriter
 pub mod Writer

@@ -8,8 +8,8 @@ use Rattle.format.specs.Bits.{bits_of}
 use Rattle.format.specs.Refusals.{refusal, Answers}
 use Rattle.format.specs.Sheet.{n_of, m_of, store_words, reader}
 use Rattle.format.specs.declared.Refusal.{Refusal}
-use Rattle.sheet.specs.Shape.{HasNumbers}
-use Rattle.sheet.specs.declared.shape.Shape.{Shape}
+use Rattle.cursor.specs.Shape.{HasNumbers}
+use Rattle.cursor.specs.declared.shape.Shape.{Shape}
 
 abbrev pub IsReading : List ℕ → ℕ → Result Shape Refusal → Type 0
 IsReading s room a = Answers (refusal (reader s room)) (HasNumbers (n_of s) (m_of s)) a

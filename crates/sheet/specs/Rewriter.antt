@@ -8,8 +8,8 @@ use Rattle.format.specs.Refusals.{Check, check, refusal, Answers}
 use Rattle.format.specs.Sheet.{n_of, m_of, reader}
 use Rattle.format.specs.declared.Refusal.{Refusal}
 use Rattle.sheet.specs.Reader.{stored}
-use Rattle.sheet.specs.Shape.{HasNumbers}
-use Rattle.sheet.specs.declared.shape.Shape.{Shape}
+use Rattle.cursor.specs.Shape.{HasNumbers}
+use Rattle.cursor.specs.declared.shape.Shape.{Shape}
 
 abbrev pub rewriter : List ℕ → ℕ → ℕ → List Check
 rewriter s words bytes = reader s words ++ (check 7 (ltb bytes (length s)) ∷ [])

@@ -5,17 +5,13 @@ ghost use Rattle.std.specs.Prelude.{◌≡◌, [], ◌∷◌, ◌++◌, ◌+◌,
 ghost use Rattle.format.specs.Bits.{bits_of, put_at};
 ghost use Rattle.format.specs.Refusals.{refusal, Answers};
 ghost use Rattle.format.specs.Sheet.{bits_for, size_for, row_words, store_words, row_bits, body_bits, sheet_bits, clean_row, clean, writer};
-ghost use Rattle.sheet.specs.Shape.{HasNumbers};
+ghost use Rattle.cursor.specs.Shape.{HasNumbers};
 ghost use Rattle.sheet.specs.Reader.{IsReading, Reads};
 ghost use Rattle.sheet.specs.Writer.{Writes};
 ghost use Rattle.sheet.specs.Rewriter.{Rewrites};
 
-use cursor::Cursor;
+use cursor::{Cursor, Shape};
 use format::Refusal;
-pub use shape::Shape;
-
-mod shape;
-
 // A row of a sheet: eight words of coefficients, variable 1 in the top bit of the first, the parity, and the cursor behind it.
 #[derive(Clone, Copy)]
 pub struct Row {

@@ -1,6 +1,6 @@
 ghost use Rattle.std.specs.Prelude.{◌≡◌, [], ◌∷◌, ◌≤◌, ltb};
 
-use cursor::Head;
+use crate::Head;
 use format::Refusal;
 
 // The numbers of variables and of rows that lines 2 and 3 let through.
@@ -14,7 +14,7 @@ pub struct Shape {
 
 impl Shape {
     ghost use Rattle.format.specs.Refusals.{check, refusal, Answers};
-    ghost use Rattle.sheet.specs.Shape.{HasNumbers};
+    ghost use Rattle.cursor.specs.Shape.{HasNumbers};
 
     // n variables and m rows, unless one of them is past its bound.
     pub fn new(n: usize, m: usize) -> Result<Shape, Refusal>
