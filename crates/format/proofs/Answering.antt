@@ -4,7 +4,7 @@
 --   answered_is       the number of an answer is that which the checks come to
 --   answers_same      two answers where the checks come to one number are the same, if one value has P
 -- Assumes nothing.
-use Rattle.std.proofs.Common.{◌≡◌, ℕ, ◌+◌, ◌<◌, [], ◌∷◌, get_or, Result, Ok, Err, refl, sym, ap, ◌∙◌, arith}
+use Rattle.std.proofs.Common.{◌≡◌, ℕ, ◌<◌, [], ◌∷◌, get_or, Result, Ok, Err, refl, sym, ap, ◌∙◌, arith}
 use Rattle.format.specs.declared.Refusal.{Refusal}
 use Rattle.format.specs.declared.Refusal.TheVariants.{ShortSheet, ManyVariables, ManyRows, LongSheet, StrayBits, FewWords, ShortAnswer, OutOfRange, AboveDepth, Unexplained, NotOpen, NoPartner}
 use Rattle.format.specs.Refusals.{number, answered, Answers}

@@ -14,7 +14,7 @@ use native.Mathlib.Omega.{arith}
 use lib.ListN.{drop, length, take, length-append, length-drop, get_or, set, take-append-drop}
 use lib.Pow.{pow_pos}
 use lib.Seq.{take_at, drop-append-add, drop-drop, take-add, length-take-le, set_split, drop_at}
-use Rattle.format.proofs.Bytes.{bits_of-append, take-bits, drop_bits, before, after, cut, length_before}
+use Rattle.format.proofs.Bytes.{bits_of-append, before, after, cut, length_before}
 use Rattle.format.proofs.Digits.{length-bits_n, bits_n-mod, bits_n-cat, bits_more}
 use Rattle.format.specs.Bits.{bits_n, bits_of, put_at}
 

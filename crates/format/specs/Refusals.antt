@@ -6,7 +6,7 @@
 --   IsRefused a k    the answer a is the refusal of the number k
 --   Answers k P a    a is the answer where the checks come to k: the refusal of that number, or for 0 a value of which P holds
 -- Assumes nothing.
-use Rattle.std.specs.Prelude.{◌≡◌, Bool, cond, List, [], ◌∷◌, ℕ, Result, Ok, Err, ⊥}
+use Rattle.std.specs.Prelude.{◌≡◌, Bool, cond, List, [], ◌∷◌, ℕ, Result, Ok, Err}
 use Rattle.format.specs.declared.Refusal.{Refusal}
 use Rattle.format.specs.declared.Refusal.TheVariants.{ShortSheet, ManyVariables, ManyRows, LongSheet, StrayBits, FewWords, ShortAnswer, OutOfRange, AboveDepth, Unexplained, NotOpen, NoPartner}
 
