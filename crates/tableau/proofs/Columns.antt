@@ -10,7 +10,7 @@ use native.Mathlib.Nat.{div-one, zero-lt-suc, mod-lt, mul_comm, mul-le-mul, le_r
 use native.Mathlib.Decide.{dec_lt}
 use native.Mathlib.Omega.{arith}
 use lib.ListN.{get_or}
-use lib.Pow.{pow_pos, pow_mono, pow-add, shl_exact, shr_lt, shr-shr, high, low}
+use lib.Pow.{pow_mono, pow-add, shl_exact, shr_lt, shr-shr, high, low}
 use Rattle.words.specs.Words.{digit, bit_of, bit_at}
 use Rattle.words.proofs.Ones.{high_digit, low_digit, digit_below}
 use Rattle.tableau.specs.Layout.{row_at}

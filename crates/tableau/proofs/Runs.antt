@@ -6,7 +6,7 @@
 --   chain_span              a chain of a steps, then a span of j steps from a on, is a chain of a + j steps
 --   span_two, span_idle     two steps; a span goes on over steps that change nothing
 -- Assumes nothing.
-use mathlib.Core.Path.{◌≡◌, refl, sym, ap, ap₂, ◌∙◌}
+use mathlib.Core.Path.{◌≡◌, refl, ap, ap₂, ◌∙◌}
 use mathlib.Core.List.{List}
 use mathlib.Core.Bool.{◌&&◌}
 use mathlib.Core.Logic.{◌⊎◌, inl, inr}

@@ -5,7 +5,7 @@ ghost use Rattle.std.specs.Prelude.{◌≡◌, ◌+◌, ◌*◌, ◌-◌, ◌<�
 ghost use Rattle.tableau.specs.Layout.{coef_words, from_words, max_vars, max_rows, max_taken, row_at, from_at, home_step, size};
 ghost use Rattle.tableau.specs.Buffer.{Run, Slice, Added, entry_at, home_at, Recorded, Homed, Gathered, Column};
 
-use words::{sum, sum_from};
+use words::sum;
 
 // The most variables.
 const MAX_VARS: u64 = 512;
@@ -74,7 +74,10 @@ pub fn add_row(work: &mut [u64], from: usize, to: usize)
     ensures { Added from to work.old work.new }
 {
     let row = sum(load(work, to), load(work, from));
-    let rows = sum_from(words_at(work, ROW * to + FROM), words_at(work, ROW * from + FROM));
+    let rows = sum::<FROM_WORDS>(
+        words_at(work, ROW * to + FROM),
+        words_at(work, ROW * from + FROM),
+    );
     let x = work[ROW * to + LAST];
     let y = work[ROW * from + LAST];
     store(work, to, row);

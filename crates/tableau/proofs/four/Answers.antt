@@ -1,5 +1,5 @@
 use Rattle.std.proofs.Common.{arith, ◌+◌}
-use Rattle.tableau.proofs.Columns.{gathered_small, gathered_join}
+use Rattle.tableau.proofs.Columns.{gathered_join}
 use Rattle.tableau.proofs.four.Goals as goal
 
 pub returns : goal.returns

@@ -1,5 +1,4 @@
-use Rattle.std.proofs.Common.{arith, ◌+◌}
-use Rattle.tableau.specs.Layout.{record_at}
+use Rattle.std.proofs.Common.{arith}
 use Rattle.tableau.proofs.Records.{record_done}
 use Rattle.tableau.proofs.set_entry.Goals as goal
 
