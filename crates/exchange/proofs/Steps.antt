@@ -1,6 +1,5 @@
 -- WHAT A LITERAL DOES TO A STATE OF THE MODULE.
 --   beq_other                            a fact that the code's test gives
---   stuck_still                          a literal that is stuck changes nothing
 --   known_bit, truth_bit                 the value of a variable, as it is read
 --   FreeAt                               a state of the module in which v has no value and is not basic
 --   step_made                            the answer to a literal is the definitions', and the state afterwards is one of the module
@@ -42,9 +41,6 @@ use Rattle.exchange.proofs.Turns.{Apart, turned_apart}
 -- `==` of two bools
 pub beq_other : (a b : Bool) → beq a b ≡ false → a ≢ b
 beq_other a b h e = clash (beq a b) (beq_same a b e) h
-
-pub stuck_still : (k d code : ℕ) (ws w : List ℕ) → Took k d code ws w false → w ≡ ws
-stuck_still k d code ws w (stuck p f q z) = z
 
 -- ---- a variable without a value is made non-basic
 pub record FreeAt (ws : List ℕ) (n m : ℕ) (Sheet : ℕ → Row) (kept : ℕ → Bool) (d : ℕ) (x : ℕ → ℕ) (y : ℕ → Bool) (k v : ℕ) : Type 0 where
