@@ -5,6 +5,7 @@ ghost use Rattle.std.specs.Prelude.{◌≡◌, ◌&&◌, ◌+◌, ◌-◌, ◌<�
 ghost use Rattle.std.specs.Int.Bits.{bit_and, bit_xor};
 ghost use Rattle.gf2.specs.Field.{xsum};
 ghost use Rattle.words.specs.Words.{bit_at, xor_words, own_word, Lowest};
+ghost use Rattle.words.specs.Ones.{TakesTop, left};
 
 // The sum of two rows, or of their provenance.
 pub fn sum<const W: usize>(a: [u64; W], b: [u64; W]) -> [u64; W]
@@ -63,4 +64,36 @@ pub fn bit(ws: &[u64], a: usize, v: usize) -> bool
 {
     let p = v - 1;
     (ws[a + p / 64] >> (63 - p % 64)) % 2 == 1
+}
+
+// The places of a word's ones, the top one first: place 0 is the top bit.
+#[derive(Clone, Drop)]
+pub struct Ones {
+    pub rest: u64,
+}
+
+impl Ones {
+    // The places of the ones of x.
+    pub fn of(x: u64) -> Ones
+        ensures { result.rest ≡ x }
+    {
+        Ones { rest: x }
+    }
+}
+
+impl Iterator for Ones {
+    type Item = usize;
+
+    ghost next_gives = { TakesTop };
+
+    ghost remaining = { left };
+
+    fn next(&mut self) -> Option<usize> {
+        if self.rest == 0 {
+            return None;
+        }
+        let i = self.rest.leading_zeros() as usize;
+        self.rest ^= 1 << (63 - i);
+        Some(i)
+    }
 }
