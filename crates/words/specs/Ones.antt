@@ -17,8 +17,8 @@ pub record Top (x i y : ℕ) : Type 0 where
   pub less : y < x
 
 abbrev pub TakesTop : Ones → Option ℕ → Ones → Type 0
-TakesTop s None t = (s.rest ≡ 0) × (t.rest ≡ 0)
-TakesTop s (Some i) t = Top s.rest i t.rest
+TakesTop s None t = (s.0 ≡ 0) × (t.0 ≡ 0)
+TakesTop s (Some i) t = Top s.0 i t.0
 
 abbrev pub left : Ones → Count
-left s = at_most s.rest
+left s = at_most s.0

@@ -52,7 +52,8 @@ pub fn own(v: Variable, j: usize) -> u64
     requires { j < 8 }
     ensures { result ≡ own_word (v.number - 1) j }
 {
-    if v.word() == j { 1 << v.digit() } else { 0 }
+    let (w, d) = v.place();
+    if w == j { 1 << d } else { 0 }
 }
 
 // The ones of x that y does not have.
@@ -67,23 +68,13 @@ pub fn bit(ws: &[u64], a: usize, v: Variable) -> bool
     requires { a + 8 ≤ length ws.now }
     ensures { result ≡ bit_at ws.now a (v.number - 1) }
 {
-    (ws[a + v.word()] >> v.digit()) % 2 == 1
+    let (w, d) = v.place();
+    (ws[a + w] >> d) % 2 == 1
 }
 
 // The places of a word's ones, the top one first: place 0 is the top bit.
 #[derive(Clone, Drop)]
-pub struct Ones {
-    pub rest: u64,
-}
-
-impl Ones {
-    // The places of the ones of x.
-    pub fn of(x: u64) -> Ones
-        ensures { result.rest ≡ x }
-    {
-        Ones { rest: x }
-    }
-}
+pub struct Ones(pub u64);
 
 impl Iterator for Ones {
     type Item = usize;
@@ -93,11 +84,11 @@ impl Iterator for Ones {
     ghost remaining = { left };
 
     fn next(&mut self) -> Option<usize> {
-        if self.rest == 0 {
+        if self.0 == 0 {
             return None;
         }
-        let i = self.rest.leading_zeros() as usize;
-        self.rest ^= 1 << (63 - i);
+        let i = self.0.leading_zeros() as usize;
+        self.0 ^= 1 << (63 - i);
         Some(i)
     }
 }

@@ -9,17 +9,11 @@ pub struct Variable {
 }
 
 impl Variable {
-    // The word of a row that has its bit.
-    pub fn word(self) -> usize
-        ensures { (result ≡ (self.number - 1) / 64) × (result < 8) }
+    // Where a row has its bit: in which word, and as which digit of it, 0 the lowest.
+    pub fn place(self) -> (usize, usize)
+        ensures { (result.0 ≡ (self.number - 1) / 64) × (result.1 ≡ 63 - (self.number - 1) % 64) }
     {
-        (self.number - 1) / 64
-    }
-
-    // Which digit of that word its bit is, 0 the lowest.
-    pub fn digit(self) -> usize
-        ensures { (result ≡ 63 - (self.number - 1) % 64) × (result < 64) }
-    {
-        63 - (self.number - 1) % 64
+        let p = self.number - 1;
+        (p / 64, 63 - p % 64)
     }
 }
