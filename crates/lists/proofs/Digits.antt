@@ -56,7 +56,8 @@ rest_start x t s base at out f l =
     record { seen = 0; ones = left_start x f; listed = listed_none (length out) at out l }
 
 -- the top one is listed and taken away
-module _ (x t s base at : ℕ) (out o : List ℕ) (rest c i after : ℕ) (h : Rest x t s base at out o rest c) (top : Top rest i after) (room : at + length (items 64 x t s base) ≤ length out) where
+module _ (x t s base at : ℕ) (out o : List ℕ) (rest c i after : ℕ) (h : Rest x t s base at out o rest c) (top : Top rest i after)
+    (room : at + length (items 64 x t s base) ≤ length out) where
   abbrev item : ℕ
   item = s * (base + i + 1) + t / 2 ^ (63 - i) % 2
 
@@ -83,10 +84,12 @@ module _ (x t s base at : ℕ) (out o : List ℕ) (rest c i after : ℕ) (h : Re
       record {
         seen = suc i;
         ones = left_next x h.seen rest i after h.ones top;
-        listed = rw more (listed_join (length out) (length o) at c (c + 1) (items h.seen x t s base) (item ∷ []) out o (set o c item) h.listed (listed_one c item o rest_room) more_room);
+        listed = rw more (listed_join (length out) (length o) at c (c + 1) (items h.seen x t s base) (item ∷ []) out o (set o c item) h.listed
+            (listed_one c item o rest_room) more_room);
       }
 
-pub rest_end : (x t s base at : ℕ) (out o : List ℕ) (rest c : ℕ) → Rest x t s base at out o rest c → rest ≡ 0 → ListPut (length out) at (items 64 x t s base) out o c
+pub rest_end : (x t s base at : ℕ) (out o : List ℕ) (rest c : ℕ) → Rest x t s base at out o rest c → rest ≡ 0
+    → ListPut (length out) at (items 64 x t s base) out o c
 rest_end x t s base at out o rest c h z = rw all h.listed
   where
     all : items 64 x t s base ≡ items h.seen x t s base

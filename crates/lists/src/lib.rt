@@ -109,8 +109,8 @@ fn list_others(work: &[u64], r: usize, v: Variable, n: usize, out: &mut [u64]) -
 // The clause of v, whose value row r gives: v's literal, then the negations.
 pub fn list_clause(work: &[u64], r: usize, v: Variable, n: usize, out: &mut [u64]) -> usize
     requires { (size ≤ length work.now) × (r < max_rows) × (n ≤ max_vars) × (n ≤ length out.old) × (v.number ≤ n) }
-    ensures { ListPut n 0 (code v.number (bit_at work.now truth_at (v.number - 1)) ∷ scanned n (is_other work.now r v.number) (λ u. not (vals work.now truth_at u)))
-        out.old out.new result }
+    ensures { ListPut n 0 (code v.number (bit_at work.now truth_at (v.number - 1))
+        ∷ scanned n (is_other work.now r v.number) (λ u. not (vals work.now truth_at u))) out.old out.new result }
 {
     out[0] = literal(v, bit(work, TRUTH, v));
     list_others(work, r, v, n, out)
