@@ -20,7 +20,7 @@ use Rattle.tableau.specs.Layout.{max_vars, max_rows, row_size, row_at, last_at, 
 use Rattle.tableau.specs.Buffer.{Chain}
 use Rattle.settle.specs.Values.{lacks}
 use Rattle.settle.proofs.Blocks.{settled_rows}
-use Rattle.exchange.specs.Steps.{Partner, pointed, RowTurned, idle, added, centre}
+use Rattle.exchange.specs.Steps.{IsPartner, pointed, RowTurned, idle, added, centre}
 
 -- ---- rows that are turned
 pub turned_idle : (e p u : ℕ) (ws : List ℕ) → bit_at ws (row_at p) (u - 1) ≡ true → (r : ℕ) (w : List ℕ) → r < e → bit_at ws (row_at r) (u - 1) ≡ false → bit_at w (row_at r) (u - 1) ≡ false → RowTurned p u r w w
@@ -59,9 +59,8 @@ lacks_has : (ws : List ℕ) (r i : ℕ) → lacks ws r i ≡ true → bit_at ws 
 unfolding lacks
 lacks_has ws r i h = (and_both (bit_at ws (row_at r) i) (not (bit_at ws known_at i)) h).0
 
-pub partner_has : (ws w : List ℕ) (p q u : ℕ) → p < max_rows → 0 < u → Partner ws p q u → ((i : ℕ) → i < record_at → get_or w i 0 ≡ get_or ws i 0) → bit_at w (row_at p) (u - 1) ≡ true
-partner_has ws w p q u lp pos h rest =
-    let e : u ≡ suc (u - 1) = omega arith in
-    let f = h.some (u - 1) e in
-    let l = f.0 in
-    bit_same ws w (row_at p) (row_at p) (u - 1) (rest (row_at p + (u - 1) / 64) (omega arith)) ∙ lacks_has ws p (u - 1) f.2
+pub partner_has : (ws w : List ℕ) (p q u : ℕ) → p < max_rows → IsPartner ws p q u → ((i : ℕ) → i < record_at → get_or w i 0 ≡ get_or ws i 0) → bit_at w (row_at p) (u - 1) ≡ true
+partner_has ws w p q u lp h rest =
+    let lo = h.first in
+    let hi = h.last in
+    bit_same ws w (row_at p) (row_at p) (u - 1) (rest (row_at p + (u - 1) / 64) (omega arith)) ∙ lacks_has ws p (u - 1) h.free

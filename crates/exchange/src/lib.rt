@@ -8,48 +8,44 @@ ghost use Rattle.tableau.specs.Buffer.{Span};
 ghost use Rattle.exchange.specs.Steps.{Partner, Found, pointed, RowTurned, Turned, Took, Stepped};
 
 use settle::{follow, put, settle_row};
-use tableau::{
-    COEF_WORDS, KNOWN, LAST, ROW, TRUTH, add_row, block_end, column, home, set_entry, set_home,
-};
+use tableau::{COEF_WORDS, KNOWN, LAST, ROW, TRUTH, add_row, column, home, set_entry, set_home};
 use words::{bit, without};
 
-// The lowest variable of row r that has no value and is not v, or 0. On a state of the module, where v is basic in row r, no other variable of the row is basic.
-fn partner(work: &[u64], r: usize, v: usize) -> usize
+// The lowest variable of row r that has no value and is not v. On a state of the module, where v is basic in row r, no other variable of the row is basic.
+fn partner(work: &[u64], r: usize, v: usize) -> Option<usize>
     requires { (size ≤ length work.now) × (r < max_rows) × (0 < v) × (v ≤ max_vars) }
     ensures { Partner work.now r (v - 1) result }
 {
     let a = ROW * r;
-    let mut found = 0;
-    let mut w = 0;
-    'scan: while w < COEF_WORDS {
+    let mut found = None;
+    'scan: for w in 0..COEF_WORDS {
         // The variables of this word that have no value, the lowest at the top.
         let mut rest = without(work[a + w], work[KNOWN + w]);
         while rest != 0 {
             let i = u64::leading_zeros(rest) as usize;
             let u = w * 64 + i + 1;
             if u != v {
-                found = u;
+                found = Some(u);
                 break 'scan;
             }
             rest = rest ^ (1 << (63 - i));
         }
-        w += 1;
     }
     found
 }
 
-// The home of v, if it is below k and v is basic there, else k. On a state of the module that is the row whose basic variable is v, if there is one.
-pub fn find(work: &[u64], k: usize, v: usize) -> usize
+// The home of v, if it is below k and v is basic there. On a state of the module that is the row whose basic variable is v, if there is one.
+pub fn find(work: &[u64], k: usize, v: usize) -> Option<usize>
     requires { (size ≤ length work.now) × (k ≤ max_rows) × (0 < v) × (v ≤ max_vars) }
     ensures { Found work.now k v result }
 {
     let x = home(work, v);
     if x >= k as u64 {
-        return k;
+        return None;
     }
     let r = x as usize;
     let basic = work[ROW * r + LAST] / 2;
-    if basic == v as u64 { r } else { k }
+    if basic == v as u64 { Some(r) } else { None }
 }
 
 // Variable u is the basic variable of row p.
@@ -94,11 +90,10 @@ fn turn(work: &mut [u64], k: usize, p: usize, u: usize, v: usize, b: bool)
     ensures { Turned k p u (v - 1) b work.old work.new }
 {
     put(work, v, b);
-    let mut q = 0;
-    while q < k {
-        let e = block_end(q, k);
+    for block in 0..k.div_ceil(64) {
+        let q = 64 * block;
+        let e = (q + 64).min(k);
         turn_block(work, q, e, p, u);
-        q = e;
     }
 }
 
@@ -109,16 +104,14 @@ fn take(work: &mut [u64], k: usize, d: usize, code: usize) -> bool
 {
     let v = code / 2;
     let b = code % 2 == 0;
-    let p = find(work, k, v);
-    if p == k {
+    let Some(p) = find(work, k, v) else {
         set_entry(work, d, code as u64);
         follow(work, k, v, b);
         return true;
-    }
-    let u = partner(work, p, v);
-    if u == 0 {
+    };
+    let Some(u) = partner(work, p, v) else {
         return false;
-    }
+    };
     // u becomes basic in row p: that is its home.
     set_home(work, u, p);
     set_entry(work, d, code as u64);
@@ -127,7 +120,7 @@ fn take(work: &mut [u64], k: usize, d: usize, code: usize) -> bool
 }
 
 // What a literal that is offered comes to: its variable has that value; it has the other; the literal is taken; it cannot be.
-#[derive(Clone, Copy)]
+#[derive(Clone, Copy, Debug, PartialEq, Eq)]
 pub enum Offer {
     Held,
     Conflict,

@@ -2,12 +2,14 @@
 #![tactic(auto)]
 
 ghost use Rattle.std.specs.Prelude.{◌≡◌};
-ghost use Rattle.format.specs.Refusals.{refusal};
+ghost use Rattle.format.specs.Refusals.{refusal, answered};
 ghost use Rattle.judge.specs.Checks.{unfit, assume_checks, back_checks, explain_checks};
+
+use format::Refusal;
 
 // A state is a header and a working buffer. It is open exactly if `open` is 1.
 #[repr(C)]
-#[derive(Clone, Copy)]
+#[derive(Clone, Copy, Debug, Default, PartialEq, Eq)]
 pub struct Header {
     pub open: u64,
     pub n: usize,
@@ -20,83 +22,65 @@ pub struct Header {
 fn unfit(h: Header) -> bool
     ensures { result ≡ unfit h }
 {
-    if h.open != 1 {
-        return true;
-    }
-    if 512 < h.n {
-        return true;
-    }
-    if 256 < h.m {
-        return true;
-    }
-    if h.n < h.kept {
-        return true;
-    }
-    if h.m < h.kept {
-        return true;
-    }
-    h.n < h.depth
+    h.open != 1 || 512 < h.n || 256 < h.m || h.n.min(h.m) < h.kept || h.n < h.depth
 }
 
-// The refusal of an assume, or 0: line 12 is not judged here.
-pub fn judge_assume(h: Header, words: usize, room: usize, code: usize) -> u8
-    ensures { result ≡ refusal (assume_checks h words room code) }
+// The refusal of an assume: line 12 is not judged here.
+pub fn judge_assume(h: Header, words: usize, room: usize, code: usize) -> Result<(), Refusal>
+    ensures { answered result ≡ refusal (assume_checks h words room code) }
 {
     if unfit(h) {
-        return 11;
+        return Err(Refusal::NotOpen);
     }
     if words < 4096 {
-        return 6;
+        return Err(Refusal::FewWords);
     }
     if room < h.n {
-        return 7;
+        return Err(Refusal::ShortAnswer);
     }
-    if code < 2 {
-        return 8;
+    if code < 2 || 2 * h.n + 1 < code {
+        return Err(Refusal::OutOfRange);
     }
-    if 2 * h.n + 1 < code {
-        return 8;
-    }
-    0
+    Ok(())
 }
 
-// The refusal of a back, or 0.
-pub fn judge_back(h: Header, words: usize, depth: usize) -> u8
-    ensures { result ≡ refusal (back_checks h words depth) }
+// The refusal of a back.
+pub fn judge_back(h: Header, words: usize, depth: usize) -> Result<(), Refusal>
+    ensures { answered result ≡ refusal (back_checks h words depth) }
 {
     if unfit(h) {
-        return 11;
+        return Err(Refusal::NotOpen);
     }
     if words < 4096 {
-        return 6;
+        return Err(Refusal::FewWords);
     }
     if h.depth < depth {
-        return 9;
+        return Err(Refusal::AboveDepth);
     }
-    0
+    Ok(())
 }
 
-// The refusal of an explain, or 0: line 10 is not judged here.
-pub fn judge_explain(h: Header, words: usize, codes: usize, numbers: usize, v: usize) -> u8
-    ensures { result ≡ refusal (explain_checks h words codes numbers v) }
+// The refusal of an explain: line 10 is not judged here.
+pub fn judge_explain(
+    h: Header,
+    words: usize,
+    codes: usize,
+    numbers: usize,
+    v: usize,
+) -> Result<(), Refusal>
+    ensures { answered result ≡ refusal (explain_checks h words codes numbers v) }
 {
     if unfit(h) {
-        return 11;
+        return Err(Refusal::NotOpen);
     }
     if words < 4096 {
-        return 6;
+        return Err(Refusal::FewWords);
     }
-    if codes < h.n {
-        return 7;
+    if codes < h.n || numbers < h.m {
+        return Err(Refusal::ShortAnswer);
     }
-    if numbers < h.m {
-        return 7;
+    if v < 1 || h.n < v {
+        return Err(Refusal::OutOfRange);
     }
-    if v < 1 {
-        return 8;
-    }
-    if h.n < v {
-        return 8;
-    }
-    0
+    Ok(())
 }

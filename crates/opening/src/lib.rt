@@ -19,10 +19,8 @@ fn mark_row(work: &mut [u64], q: usize, k: usize)
     ensures { Run (from_at k) from_words (λ j. own_word q j) work.old work.new }
 {
     let a = ROW * k + FROM;
-    let mut j = 0;
-    while j < FROM_WORDS {
+    for j in 0..FROM_WORDS {
         work[a + j] = own(q + 1, j);
-        j += 1;
     }
 }
 
@@ -58,10 +56,8 @@ fn reduce(work: &mut [u64], k: usize)
     requires { (size ≤ length work.old) × (k < max_rows) × Basics k work.old }
     ensures { Chain (Reduced k) k work.old work.new }
 {
-    let mut r = 0;
-    while r < k {
+    for r in 0..k {
         reduce_by(work, k, r);
-        r += 1;
     }
 }
 
@@ -97,27 +93,16 @@ fn clear_two(work: &mut [u64], k: usize, v: usize, r: usize)
     }
 }
 
-// Row k is added into each row below f, an even number, that has the variable v.
-fn clear_twos(work: &mut [u64], k: usize, v: usize, f: usize)
-    requires { (size ≤ length work.old) × (k < max_rows) × (f ≤ k) × (f % 2 ≡ 0) × (0 < v) × (v ≤ max_vars) }
-    ensures { Chain (RowCleared k (v - 1)) f work.old work.new }
-{
-    let mut q = 0;
-    while q < f {
-        clear_two(work, k, v, q);
-        q += 2;
-    }
-}
-
 // Row k is added into each row before it that has the variable v.
 fn clear_rows(work: &mut [u64], k: usize, v: usize)
     requires { (size ≤ length work.old) × (k < max_rows) × (0 < v) × (v ≤ max_vars) }
     ensures { Chain (RowCleared k (v - 1)) k work.old work.new }
 {
-    let f = k / 2 * 2;
-    clear_twos(work, k, v, f);
-    if f < k {
-        clear_row(work, k, v, f);
+    for i in 0..k / 2 {
+        clear_two(work, k, v, 2 * i);
+    }
+    if k % 2 == 1 {
+        clear_row(work, k, v, k - 1);
     }
 }
 
@@ -130,60 +115,41 @@ fn enter(work: &mut [u64], k: usize, u: usize)
     point(work, k, u);
 }
 
-// What a row that goes in comes to: it says nothing new; it contradicts; it is kept.
-#[derive(Clone, Copy)]
-pub enum RowCase {
-    Redundant,
-    Contradictory,
-    Kept,
+// A row contradicts those before it. It stands in the working buffer as row `row`, after as many kept rows.
+#[derive(Clone, Copy, Debug, PartialEq, Eq)]
+pub struct Contradiction {
+    pub row: usize,
 }
 
-// Row q of the row store goes in, with k rows kept so far; if it is kept it is row k.
-fn open_row(work: &mut [u64], rows: &[u64], q: usize, k: usize) -> RowCase
+// Row q of the row store goes in, with k rows kept so far: whether it is kept, as row k. One that is not kept says nothing new.
+fn open_row(work: &mut [u64], rows: &[u64], q: usize, k: usize) -> Result<bool, Contradiction>
     requires { (size ≤ length work.old) × (9 * q + 9 ≤ length rows.now) × (q < max_rows) × (k < max_rows) × Basics k work.old }
     ensures { RowDone q k rows.now work.old work.new result }
 {
     load_row(work, rows, q, k);
     reduce(work, k);
-    let u = lowest(load(work, k));
-    if u != 0 {
+    if let Some(u) = lowest(load(work, k)) {
         set_home(work, u, k);
         enter(work, k, u);
-        return RowCase::Kept;
+        return Ok(true);
     }
     if work[ROW * k + LAST] % 2 == 1 {
-        RowCase::Contradictory
-    } else {
-        RowCase::Redundant
+        return Err(Contradiction { row: k });
     }
+    Ok(false)
 }
 
-// What all rows that go in come to: so many are kept; one contradicts, after so many were kept.
-#[derive(Clone, Copy)]
-pub enum RowsCase {
-    Open(usize),
-    Unsat(usize),
-}
-
-// All m rows of the row store go in, until one contradicts; then the variables that the rows alone decide get their values.
-pub fn open_rows(work: &mut [u64], rows: &[u64], m: usize) -> RowsCase
+// All m rows of the row store go in, until one contradicts; then the variables that the rows alone decide get their values. So many rows are kept.
+pub fn open_rows(work: &mut [u64], rows: &[u64], m: usize) -> Result<usize, Contradiction>
     requires { (size ≤ length work.old) × (9 * m ≤ length rows.now) × (m ≤ max_rows) }
     ensures { Answered m rows.now work.old result work.new }
 {
-    let mut q = 0;
     let mut k = 0;
-    while q < m {
-        match open_row(work, rows, q, k) {
-            RowCase::Contradictory => {
-                return RowsCase::Unsat(k);
-            }
-            RowCase::Kept => {
-                k += 1;
-            }
-            RowCase::Redundant => {}
+    for q in 0..m {
+        if open_row(work, rows, q, k)? {
+            k += 1;
         }
-        q += 1;
     }
     restart(work, k, 0);
-    RowsCase::Open(k)
+    Ok(k)
 }

@@ -2,7 +2,7 @@
 --   settled_rows                            a row that is settled keeps all rows
 --   followed_idle, followed_apart           a row without the variable is followed as it is; one that is followed keeps the rows after it
 --   Block Step q e x ws w rest              the loop: the rows up to the last one taken have been stepped over, the others are as they were
---   block_start, block-end                  before the loop, and when no one is left
+--   block-end                               when no one is left
 --   block_row, block_has, block_next        the row of the top one is below e and has the variable; it is stepped over
 -- Assumes nothing.
 use mathlib.Core.Path.{◌≡◌, refl, sym, ap, ◌∙◌}
@@ -17,7 +17,7 @@ use lib.Count.{count_leading_zeros}
 use lib.ListN.{length, get_or}
 use Rattle.words.specs.Words.{bit_of, bit_at}
 use Rattle.words.proofs.Bits.{bit_same}
-use Rattle.words.proofs.Ones.{zeros_lt, Left, left_start, left_end, left_seen, left_top, left_skip, left_next}
+use Rattle.words.proofs.Ones.{zeros_lt, Left, left_end, left_seen, left_top, left_skip, left_next}
 use Rattle.tableau.specs.Layout.{max_vars, max_rows, row_at, known_at}
 use Rattle.tableau.specs.Buffer.{Span, Column}
 use Rattle.tableau.proofs.Runs.{span_idle}
@@ -44,10 +44,6 @@ pub record Block (Step : ℕ → List ℕ → List ℕ → Type 0) (q e x : ℕ)
   pub going : Span Step q seen ws w
   pub same : (i : ℕ) → row_at (q + seen) ≤ i → i < known_at → get_or w i 0 ≡ get_or ws i 0
   pub len : length w ≡ length ws
-
-pub block_start : (Step : ℕ → List ℕ → List ℕ → Type 0) (q e x : ℕ) (ws : List ℕ) → q ≤ e → x < 2 ^ 64 → Block Step q e x ws ws x
-block_start Step q e x ws l f =
-    record { seen = 0; upto = omega arith; ones = left_start x f; going = refl; same = λ i a b. refl; len = refl }
 
 module _ (Step : ℕ → List ℕ → List ℕ → Type 0) (q e p x : ℕ) (ws : List ℕ) (lp : p < max_vars) (wide : e ≤ q + 64) (rows : e ≤ max_rows) (col : Column ws q e p x)
     (idle : (r : ℕ) (w : List ℕ) → r < e → bit_at ws (row_at r) p ≡ false → bit_at w (row_at r) p ≡ false → Step r w w)

@@ -4,14 +4,14 @@
 --   Sole ws r p x         whether variable p + 1 is the one variable of row r without a value
 --   Put p b ws w          variable p + 1 has been given the value b
 --   value_at ws r          the value that makes row r hold; Can: the row gives it to its basic variable
---   Ready ws r x          x is that variable, or 0 where the row gives nothing
+--   Ready ws r x          x is that variable, and nothing where the row gives nothing
 --   RowSettled r ws w     row r has given its basic variable a value, if it can
 --   Entry, EntrySet       an entry of the record that is a literal; its variable has been given its value
 --   Restarted k d ws w    the values have been made anew from the first d entries and the first k rows
 --   RowFollowed p r ws w  row r has been settled, if it has variable p + 1
 --   Followed k p b ws w   variable p + 1 has been given the value b, and the rows below k that have it have been settled
 -- Assumes nothing.
-use Rattle.std.specs.Prelude.{◌≡◌, List, ◌⊎◌, Bool, true, false, not, ◌&&◌, ◌||◌, ℕ, ◌+◌, ◌*◌, ◌-◌, ◌<◌, ◌≤◌, length, get_or}
+use Rattle.std.specs.Prelude.{◌≡◌, List, Option, None, Some, ◌⊎◌, Bool, true, false, not, ◌&&◌, ◌||◌, ℕ, ◌+◌, ◌*◌, ◌-◌, ◌<◌, ◌≤◌, length, get_or}
 use Rattle.gf2.specs.Field.{◌⊕◌, xsum, same}
 use Rattle.gf2.specs.Answers.{variable, value}
 use Rattle.words.specs.Words.{bit_of, bit_at}
@@ -42,9 +42,9 @@ pub record Can (ws : List ℕ) (r : ℕ) : Type 0 where
   pub high : basic_at ws r ≤ max_vars
   pub alone : (i : ℕ) → i < max_vars → lacks ws r i ≡ same (basic_at ws r - 1) i
 
-pub record Ready (ws : List ℕ) (r x : ℕ) : Type 0 where
-  pub none : x ≡ 0 → Can ws r → ⊥
-  pub some : (x ≡ 0 → ⊥) → Can ws r × (x ≡ basic_at ws r)
+abbrev pub Ready : List ℕ → ℕ → Option ℕ → Type 0
+Ready ws r None = Can ws r → ⊥
+Ready ws r (Some v) = Can ws r × (v ≡ basic_at ws r)
 
 abbrev pub RowSettled : ℕ → List ℕ → List ℕ → Type 0
 RowSettled r ws w = ((w ≡ ws) × (Can ws r → ⊥)) ⊎ (Can ws r × Put (basic_at ws r - 1) (value_at ws r) ws w)

@@ -6,9 +6,7 @@ ghost use Rattle.tableau.specs.Layout.{coef_words, max_vars, max_rows, max_taken
 ghost use Rattle.tableau.specs.Buffer.{Run, Chain, Span};
 ghost use Rattle.settle.specs.Values.{Overlay, Sole, Put, value_at, Ready, RowSettled, EntrySet, Restarted, RowFollowed, Followed};
 
-use tableau::{
-    CODES, COEF_WORDS, KNOWN, LAST, ROW, TRUTH, block_end, column, entry, load, words_at,
-};
+use tableau::{CODES, COEF_WORDS, KNOWN, LAST, ROW, TRUTH, column, entry, load, words_at};
 use words::{odd, own, without};
 
 // Variable v gets the value b.
@@ -22,8 +20,8 @@ pub fn put(work: &mut [u64], v: usize, b: bool)
     let t = TRUTH + j;
     let mask = own(v, j);
     let bit = if b { mask } else { 0 };
-    work[k] = work[k] | mask;
-    work[t] = work[t] | bit;
+    work[k] |= mask;
+    work[t] |= bit;
 }
 
 // The variables of row r without a value, its eight words laid over one another.
@@ -33,10 +31,8 @@ fn overlay(work: &[u64], r: usize) -> u64
 {
     let a = ROW * r;
     let mut over = 0;
-    let mut j = 0;
-    while j < COEF_WORDS {
-        over = over | without(work[a + j], work[KNOWN + j]);
-        j += 1;
+    for j in 0..COEF_WORDS {
+        over |= without(work[a + j], work[KNOWN + j]);
     }
     over
 }
@@ -47,13 +43,11 @@ fn alone(work: &[u64], r: usize, v: usize) -> bool
     ensures { Sole work.now r (v - 1) result }
 {
     let a = ROW * r;
-    let mut j = 0;
-    while j < COEF_WORDS {
+    for j in 0..COEF_WORDS {
         let open = without(work[a + j], work[KNOWN + j]);
         if open ^ own(v, j) != 0 {
             return false;
         }
-        j += 1;
     }
     true
 }
@@ -80,20 +74,20 @@ fn value(work: &[u64], r: usize) -> bool
     if work[ROW * r + LAST] % 2 == 1 { !b } else { b }
 }
 
-// The basic variable of row r if it alone has no value in its row, else 0.
-fn ready(work: &[u64], r: usize) -> usize
+// The basic variable of row r, if it alone has no value in its row.
+fn ready(work: &[u64], r: usize) -> Option<usize>
     requires { (size ≤ length work.now) × (r < max_rows) }
     ensures { Ready work.now r result }
 {
     let x = work[ROW * r + LAST];
     if x < 2 {
-        return 0;
+        return None;
     }
     if x >= CODES {
-        return 0;
+        return None;
     }
     let u = (x / 2) as usize;
-    if sole(work, r, u) { u } else { 0 }
+    if sole(work, r, u) { Some(u) } else { None }
 }
 
 // Row r is settled: where its basic variable is its only one without a value, the row gives it one.
@@ -101,8 +95,7 @@ pub fn settle_row(work: &mut [u64], r: usize)
     requires { (size ≤ length work.old) × (r < max_rows) }
     ensures { RowSettled r work.old work.new }
 {
-    let v = ready(work, r);
-    if v != 0 {
+    if let Some(v) = ready(work, r) {
         let b = value(work, r);
         put(work, v, b);
     }
@@ -113,10 +106,8 @@ fn settle(work: &mut [u64], k: usize)
     requires { (size ≤ length work.old) × (k ≤ max_rows) }
     ensures { Chain RowSettled k work.old work.new }
 {
-    let mut r = 0;
-    while r < k {
+    for r in 0..k {
         settle_row(work, r);
-        r += 1;
     }
 }
 
@@ -125,11 +116,7 @@ fn clear_values(work: &mut [u64])
     requires { size ≤ length work.old }
     ensures { Run known_at (2 * coef_words) (λ i. 0) work.old work.new }
 {
-    let mut j = 0;
-    while j < 2 * COEF_WORDS {
-        work[KNOWN + j] = 0;
-        j += 1;
-    }
+    work[KNOWN..KNOWN + 2 * COEF_WORDS].fill(0);
 }
 
 // The variable of entry j of the record gets its value, if the entry is a literal.
@@ -151,10 +138,8 @@ fn put_entries(work: &mut [u64], d: usize)
     requires { (size ≤ length work.old) × (d ≤ max_taken) }
     ensures { Chain EntrySet d work.old work.new }
 {
-    let mut j = 0;
-    while j < d {
+    for j in 0..d {
         put_entry(work, j);
-        j += 1;
     }
 }
 
@@ -187,10 +172,9 @@ pub fn follow(work: &mut [u64], k: usize, v: usize, b: bool)
     ensures { Followed k (v - 1) b work.old work.new }
 {
     put(work, v, b);
-    let mut q = 0;
-    while q < k {
-        let e = block_end(q, k);
+    for block in 0..k.div_ceil(64) {
+        let q = 64 * block;
+        let e = (q + 64).min(k);
         follow_block(work, q, e, v);
-        q = e;
     }
 }

@@ -1,5 +1,5 @@
 -- WHICH OF SOME ROWS HAVE A VARIABLE, as the digits of one word.
---   gathered_none, gathered_two     no row; two rows, as the code reads them
+--   gathered_two                    two rows, as the code reads them
 --   gathered_join, gathered_drop    n rows more; the digits of the rows from e on dropped
 --   gathered_small, column_done     a word of n digits at most; the digits moved up to the top
 -- Assumes nothing.
@@ -10,14 +10,11 @@ use native.Mathlib.Nat.{div-one, zero-lt-suc, mod-lt, mul_comm, mul-le-mul, le_r
 use native.Mathlib.Decide.{dec_lt}
 use native.Mathlib.Omega.{arith}
 use lib.ListN.{get_or}
-use lib.Pow.{pow_pos, pow_mono, pow-add, shl_exact, shr_lt, shr-shr, high, low}
+use lib.Pow.{pow_mono, pow-add, shl_exact, shr_lt, shr-shr, high, low}
 use Rattle.words.specs.Words.{digit, bit_of, bit_at}
 use Rattle.words.proofs.Ones.{high_digit, low_digit, digit_below}
 use Rattle.tableau.specs.Layout.{row_at}
 use Rattle.tableau.specs.Buffer.{Gathered, Column}
-
-pub gathered_none : (ws : List ℕ) (q p : ℕ) → Gathered ws q q p 0
-gathered_none ws q p = record { low = pow_pos (q - q); digits = λ i l. absurd (omega arith) }
 
 gathered_one : (ws : List ℕ) (r p a : ℕ) → a ≡ row_at r + p / 64 → Gathered ws r (r + 1) p (get_or ws a 0 / 2 ^ (63 - p % 64) % 2)
 unfolding bit_at

@@ -1,12 +1,12 @@
 -- LOOPS THAT WRITE A RUN OF WORDS, and steps one after another.
 --   run_none, run_more      nothing written yet; one word more
---   run_slice               words copied to the front of a list; slice_at: from an equal place
---   slice_bit, slice_sum    their bits, and the sum of the bits that two such lists share
+--   slice_at                words read from an equal place
+--   slice_bit, slice_sum    the bits of words that were read, and the sum of the bits that two such lists share
 --   chain_more              one step more
 --   chain_span              a chain of a steps, then a span of j steps from a on, is a chain of a + j steps
 --   span_two, span_idle     two steps; a span goes on over steps that change nothing
 -- Assumes nothing.
-use mathlib.Core.Path.{◌≡◌, refl, sym, ap, ap₂, ◌∙◌}
+use mathlib.Core.Path.{◌≡◌, refl, ap, ap₂, ◌∙◌}
 use mathlib.Core.List.{List}
 use mathlib.Core.Bool.{◌&&◌}
 use mathlib.Core.Logic.{◌⊎◌, inl, inr}
@@ -38,9 +38,6 @@ run_more off j want ws w x r l e =
     rest : (i : ℕ) → (i < off) ⊎ (off + (j + 1) ≤ i) → get_or (set w (off + j) x) i 0 ≡ get_or ws i 0
     rest i (inl h) = get_or-set_other w (off + j) i x 0 (λ (z : i ≡ off + j). absurd (omega arith)) ∙ r.rest i (inl h)
     rest i (inr h) = get_or-set_other w (off + j) i x 0 (λ (z : i ≡ off + j). absurd (omega arith)) ∙ r.rest i (inr (omega arith))
-
-pub run_slice : (k at : ℕ) (ws zs r : List ℕ) → Run 0 k (λ j. get_or ws (at + j) 0) zs r → Slice k ws at r
-run_slice k at ws zs r h = record { word = λ j l. ap (λ (x : ℕ). get_or r x 0) (sym (zero-add j)) ∙ h.done j l }
 
 pub slice_bit : (k at : ℕ) (ws r : List ℕ) → Slice k ws at r → (i : ℕ) → i < k * 64 → bit_at r 0 i ≡ bit_at ws at i
 slice_bit k at ws r h i l = bit_same ws r at 0 i (ap (λ (x : ℕ). get_or r x 0) (zero-add (i / 64)) ∙ h.word (i / 64) (omega arith))

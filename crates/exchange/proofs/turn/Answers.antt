@@ -1,4 +1,4 @@
-use Rattle.std.proofs.Common.{arith, inl, refl, rules, ◌+◌, ◌-◌, ◌/◌, ◌∙◌, ◌≡◌}
+use Rattle.std.proofs.Common.{arith, inl, min, rules, ◌*◌, ◌+◌, ◌-◌, ◌/◌, ◌∙◌, ◌≡◌}
 use Rattle.words.proofs.Bits.{bit_same}
 use Rattle.tableau.specs.Layout.{row_at}
 use Rattle.tableau.proofs.Runs.{chain_span}
@@ -6,15 +6,18 @@ use Rattle.exchange.specs.Steps.{RowTurned}
 use Rattle.exchange.proofs.Passes.{pivot_stays}
 use Rattle.exchange.proofs.turn.Goals as goal
 
-pub loop-q-init : goal.loop-q-init
-loop-q-init c = (omega arith, omega arith, λ h. omega arith, refl, refl)
+pub loop-block-preserved : goal.loop-block-preserved
+loop-block-preserved c =
+    let l = c.loop-block in
+    let q = 64 * l.block in
+    let m : min q c.args.k ≡ q = omega arith in
+    let n : q + (c.min-e.result - q) ≡ min (64 * (l.block + 1)) c.args.k = omega arith in
+    rw n at (chain_span (RowTurned _ _) q (c.min-e.result - q) _ _ _ l.auto.work (rw m at l.invariant) c.turn_block.ensures)
 
 pub turn_block-requires : goal.turn_block-requires
 turn_block-requires c =
     let a = c.args in
-    let l = c.loop-q in
-    let f = c.put in
-    let h = l.invariant.2 (omega arith) in (
+    let l = c.loop-block in (
       search rules,
       omega arith,
       omega arith,
@@ -22,21 +25,7 @@ turn_block-requires c =
       omega arith,
       omega arith,
       omega arith,
-      pivot_stays a.p a.u (omega arith) (a.u - 1) (omega arith) l.q _ l.work l.invariant.3
-          ∙ bit_same _ _ (row_at a.p) (row_at a.p) (a.u - 1) (f.ensures.rest (row_at a.p + (a.u - 1) / 64) (inl (omega arith)))
+      pivot_stays a.p a.u (omega arith) (a.u - 1) (omega arith) _ _ l.work l.invariant
+          ∙ bit_same _ _ (row_at a.p) (row_at a.p) (a.u - 1) (c.put.ensures.rest (row_at a.p + (a.u - 1) / 64) (inl (omega arith)))
           ∙ c.requires.7,
     )
-
-pub loop-q-preserved : goal.loop-q-preserved
-loop-q-preserved c =
-    let l = c.loop-q in
-    let b = c.block_end-e in
-    let t = c.turn_block in
-    let n : l.q + (b.result - l.q) ≡ b.result = omega arith in
-    (l.invariant.0, omega arith, λ h. omega (arith, l.invariant.2 (omega arith)), rw n at (chain_span (RowTurned _ _) l.q (b.result - l.q) _ _ _ l.invariant.4 l.invariant.3 t.ensures), t.auto.work ∙ l.invariant.4)
-
-pub returns : goal.returns
-returns c =
-    let e : c.loop-q.q ≡ c.args.k = omega arith in
-    let p = c.put in
-    record { begun = p.new.work; given = p.ensures; turned = rw e at c.loop-q.invariant.3 }

@@ -1,13 +1,7 @@
-use Rattle.std.proofs.Common.{arith, length-set, ◌-◌}
+use Rattle.std.proofs.Common.{arith, ◌-◌}
 use Rattle.settle.proofs.Putting.{put_done}
 use Rattle.settle.proofs.put.Goals as goal
 use Rattle.settle.proofs.put.Goals.{then-b, else-b}
-
-pub bounds-work-t : goal.bounds-work-t
-bounds-work-t c = simp length-set (omega arith)
-
-pub bounds-work-t-2 : goal.bounds-work-t-2
-bounds-work-t-2 c = simp length-set (omega arith)
 
 pub returns : goal.returns
 returns c =
