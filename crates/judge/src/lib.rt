@@ -1,8 +1,8 @@
 // The header of a state, and the refusals that a call gives before it looks into the working buffer.
 #![tactic(auto)]
 
-ghost use Rattle.std.specs.Prelude.{◌≡◌};
-ghost use Rattle.format.specs.Refusals.{refusal, answered};
+ghost use Rattle.std.specs.Prelude.{◌≡◌, [], ◌∷◌, ltb};
+ghost use Rattle.format.specs.Refusals.{check, refusal, answered};
 ghost use Rattle.judge.specs.Checks.{unfit, assume_checks, back_checks, explain_checks};
 
 use format::Refusal;
@@ -25,9 +25,9 @@ fn unfit(h: Header) -> bool
     h.open != 1 || 512 < h.n || 256 < h.m || h.n.min(h.m) < h.kept || h.n < h.depth
 }
 
-// The refusal of an assume: line 12 is not judged here.
-pub fn judge_assume(h: Header, words: usize, room: usize, code: usize) -> Result<(), Refusal>
-    ensures { answered result ≡ refusal (assume_checks h words room code) }
+// Lines 11 and 6, by which each of the calls is judged first.
+fn judge_state(h: Header, words: usize) -> Result<(), Refusal>
+    ensures { answered result ≡ refusal (check 11 (unfit h) ∷ check 6 (ltb words 4096) ∷ []) }
 {
     if unfit(h) {
         return Err(Refusal::NotOpen);
@@ -35,6 +35,14 @@ pub fn judge_assume(h: Header, words: usize, room: usize, code: usize) -> Result
     if words < 4096 {
         return Err(Refusal::FewWords);
     }
+    Ok(())
+}
+
+// The refusal of an assume: line 12 is not judged here.
+pub fn judge_assume(h: Header, words: usize, room: usize, code: usize) -> Result<(), Refusal>
+    ensures { answered result ≡ refusal (assume_checks h words room code) }
+{
+    judge_state(h, words)?;
     if room < h.n {
         return Err(Refusal::ShortAnswer);
     }
@@ -48,12 +56,7 @@ pub fn judge_assume(h: Header, words: usize, room: usize, code: usize) -> Result
 pub fn judge_back(h: Header, words: usize, depth: usize) -> Result<(), Refusal>
     ensures { answered result ≡ refusal (back_checks h words depth) }
 {
-    if unfit(h) {
-        return Err(Refusal::NotOpen);
-    }
-    if words < 4096 {
-        return Err(Refusal::FewWords);
-    }
+    judge_state(h, words)?;
     if h.depth < depth {
         return Err(Refusal::AboveDepth);
     }
@@ -70,12 +73,7 @@ pub fn judge_explain(
 ) -> Result<(), Refusal>
     ensures { answered result ≡ refusal (explain_checks h words codes numbers v) }
 {
-    if unfit(h) {
-        return Err(Refusal::NotOpen);
-    }
-    if words < 4096 {
-        return Err(Refusal::FewWords);
-    }
+    judge_state(h, words)?;
     if codes < h.n || numbers < h.m {
         return Err(Refusal::ShortAnswer);
     }
