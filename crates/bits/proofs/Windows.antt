@@ -1,4 +1,5 @@
 -- WINDOWS OF 64 BITS THAT BEGIN INSIDE A BYTE: eight bytes and the first bits of a ninth.
+--   word_room     fewer than eight bytes leave room for one more
 --   window_calc   what `window` reads
 --   window_put    what `put_window` writes
 -- Assumes nothing.
@@ -10,13 +11,19 @@ use native.Mathlib.Nat.{mod-lt}
 use native.Mathlib.Omega.{arith}
 use lib.Bits.{bit_or, or_shifted}
 use lib.ListN.{drop, length, take, length-drop, get_or, set}
-use lib.Pow.{pow_pos, shr_lt}
+use lib.Pow.{pow_pos, pow_mono, shr_lt}
 use lib.Seq.{drop-drop}
 use Rattle.format.proofs.Bytes.{length-bits_of, read_piece, byte_front}
 use Rattle.format.proofs.Digits.{length-bits_n, bits_n-split, bits_n-mod, bits_n-cat}
 use Rattle.format.proofs.Puts.{put_at-next, put_at-front, write_piece}
-use Rattle.format.proofs.Values.{shl_low, value_moved}
+use Rattle.format.proofs.Values.{field_lt, shl_low, value_moved}
 use Rattle.format.specs.Bits.{bits_n, bits_of, value_of, put_at}
+
+-- fewer than eight bytes leave room for one more
+pub word_room : (s : List ℕ) (q i : ℕ) → q + 8 ≤ length s → i < 8 → value_of (take (8 * i) (drop (8 * q) (bits_of s))) < 2 ^ 56
+word_room s q i h l =
+    let m : 2 ^ (8 * i) ≤ 2 ^ 56 = let k : 8 * i ≤ 56 = omega arith in pow_mono k in
+    omega (arith, field_lt (8 * i) (8 * q) (bits_of s) (simp length-bits_of (omega arith)))
 
 -- what `window` computes: `(w << off) | (b >> (8 - off))`
 pub window_calc : (s : List ℕ) (q off w b : ℕ) → q + 9 ≤ length s → off < 8 → b < 2 ^ 8 → b ≡ get_or s (q + 8) 0

@@ -48,12 +48,24 @@ pub fn patched(y: u8, p: u64, off: usize, t: usize) -> u8
     x as u8
 }
 
-// The 64 bits from byte q on.
+// The byte b behind the bits of v.
+fn joined_byte(v: u64, b: u8) -> u64
+    requires { v < 2 ^ 56 }
+    ensures { result ≡ v * 2 ^ 8 + b }
+{
+    (v << 8) | u64::from(b)
+}
+
+// The 64 bits from byte q on. (A compiler makes one load of this loop.)
 fn word(s: &[u8], q: usize) -> u64
     requires { q + 8 ≤ length s.now }
     ensures { result ≡ value_of (take 64 (drop (8 * q) (bits_of s.now))) }
 {
-    u64::from_be_bytes(*s[q..].first_chunk().unwrap())
+    let mut v = 0;
+    for i in 0..8 {
+        v = joined_byte(v, s[q + i]);
+    }
+    v
 }
 
 // The 64 bits from bit off of byte q on.
@@ -66,12 +78,21 @@ pub fn window(s: &[u8], q: usize, off: usize) -> u64
     (w << off) | (b >> (8 - off))
 }
 
+// The lowest eight bits of v.
+fn low_byte(v: u64) -> u8
+    ensures { result ≡ v % 2 ^ 8 }
+{
+    (v & 255) as u8
+}
+
 // Puts the 64 bits of v from byte q on.
 fn put_word(s: &mut [u8], q: usize, v: u64)
     requires { q + 8 ≤ length s.old }
     ensures { bits_of s.new ≡ put_at (bits_of s.old) (8 * q) (bits_n 64 v) }
 {
-    s[q..q + 8].copy_from_slice(&v.to_be_bytes());
+    for i in 0..8 {
+        s[q + i] = low_byte(v >> (56 - 8 * i));
+    }
 }
 
 // The first off bits of y, and v behind them.

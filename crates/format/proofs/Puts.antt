@@ -2,8 +2,8 @@
 --   put_at-none                  nothing is put
 --   put_at-put_at, put_at-next     two runs put one after the other
 --   put_at-front                 what is put begins with what stands there
---   write_piece                 a piece of one byte is put
---   put_step                    a field is put up to some bit, and a piece of a byte more
+--   write_piece, write_byte     a piece of one byte is put; a whole byte
+--   put_step, word_put_step     a field is put up to some bit, and a piece of a byte more; a word, and a byte more
 -- Assumes nothing.
 use mathlib.Core.Bool.{Bool}
 use mathlib.Core.List.{List, [], ◌∷◌, ◌++◌, append_assoc}
@@ -14,7 +14,7 @@ use native.Mathlib.Omega.{arith}
 use lib.ListN.{drop, length, take, length-append, length-drop, get_or, set, take-append-drop}
 use lib.Pow.{pow_pos}
 use lib.Seq.{take_at, drop-append-add, drop-drop, take-add, length-take-le, set_split, drop_at}
-use Rattle.format.proofs.Bytes.{bits_of-append, before, after, cut, length_before}
+use Rattle.format.proofs.Bytes.{bits_of-append, take-bits, drop_bits, before, after, cut, length_before}
 use Rattle.format.proofs.Digits.{length-bits_n, bits_n-mod, bits_n-cat, bits_more}
 use Rattle.format.specs.Bits.{bits_n, bits_of, put_at}
 
@@ -85,6 +85,17 @@ module _ (s : List ℕ) (q off t sh p : ℕ) (h : q < length s) (e : off + (t + 
       ∙ ap (λ (r : List Bool). bits_of (take q s) ++ (r ++ bits_of (drop (suc q) s))) patched_bits
       ∙ simp append_assoc)
 
+pub write_byte : (s : List ℕ) (q x : ℕ) → q < length s → bits_of (set s q x) ≡ put_at (bits_of s) (8 * q) (bits_n 8 x)
+unfolding bits_of
+write_byte s q x h =
+    let e : q * 8 ≡ 8 * q = omega arith in
+    let f : suc q * 8 ≡ 8 * q + length (bits_n 8 x) = omega (arith, length-bits_n 8 x) in
+    ap bits_of (set_split s q x h)
+    ∙ bits_of-append (take q s) (x ∷ drop (suc q) s)
+    ∙ ap₂ (λ (a b : List Bool). a ++ (bits_n 8 x ++ b))
+    (take-bits q s (omega arith) ∙ ap (λ (n : ℕ). take n (bits_of s)) e)
+    (drop_bits (suc q) s (omega arith) ∙ ap (λ (n : ℕ). drop n (bits_of s)) f)
+
 -- ---- fields that grow
 
 -- a turn of `put`: k bits of v's n are put from at on, and t more go into one byte
@@ -107,3 +118,18 @@ put_step bs s at n k t v hb hq ht hn inv x ex =
     ∙ ap₂ (λ (bs' : List Bool) (j : ℕ). put_at bs' j (bits_n t p)) inv here
     ∙ put_at-put_at bs at xs (bits_n t p) (omega (arith, lx))
     ∙ ap (put_at bs at) (bits_more n k t v hn)
+
+-- a turn of `put_word`: i bytes of v's eight are put, and one more
+pub word_put_step : (bs : List Bool) (s : List ℕ) (q i v x : ℕ) → length bs ≡ length s * 8 → q + 8 ≤ length s → i < 8
+    → bits_of s ≡ put_at bs (8 * q) (bits_n (8 * i) (v / 2 ^ (64 - 8 * i)))
+    → x ≡ v / 2 ^ (56 - 8 * i) % 2 ^ 8
+    → bits_of (set s (q + i) x) ≡ put_at bs (8 * q) (bits_n (8 * (i + 1)) (v / 2 ^ (64 - 8 * (i + 1))))
+word_put_step bs s q i v x lb h l inv ex =
+    let xs : List Bool = bits_n (8 * i) (v / 2 ^ (64 - 8 * i)) in
+    let lx : length xs ≡ 8 * i = length-bits_n (8 * i) (v / 2 ^ (64 - 8 * i)) in
+    let e : 56 - 8 * i ≡ 64 - 8 * i - 8 = omega arith in
+    let f : 8 * i + 8 ≡ 8 * (i + 1) = omega arith in
+    write_byte s (q + i) x (omega arith)
+    ∙ ap₂ (λ (r : List Bool) (y : ℕ). put_at r (8 * (q + i)) (bits_n 8 y)) inv (ex ∙ ap (λ (n : ℕ). v / 2 ^ n % 2 ^ 8) e)
+    ∙ put_at-next bs (8 * q) xs (bits_n 8 (v / 2 ^ (64 - 8 * i - 8) % 2 ^ 8)) (8 * (q + i)) (omega (arith, lx)) (omega arith)
+    ∙ ap (put_at bs (8 * q)) (bits_more 64 (8 * i) 8 v (omega arith) ∙ ap (λ (n : ℕ). bits_n n (v / 2 ^ (64 - n))) f)
