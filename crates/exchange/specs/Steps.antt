@@ -17,6 +17,7 @@ use Rattle.gf2.specs.Rows.{Row}
 use Rattle.gf2.specs.Answers.{variable, value}
 use Rattle.linear.specs.Systems.{Implied, Conflict, And, Literals}
 use Rattle.linear.specs.State.{with_at, with_bool}
+use Rattle.words.specs.declared.variable.Variable.{Variable}
 use Rattle.words.specs.Words.{bit_at}
 use Rattle.tableau.specs.Layout.{max_vars, row_at, last_at, known_at, truth_at}
 use Rattle.tableau.specs.Buffer.{basic_at, home_at, Added, Recorded, Homed, Chain}
@@ -35,9 +36,9 @@ pub record IsPartner (ws : List ℕ) (r p u : ℕ) : Type 0 where
   pub free : lacks ws r (u - 1) ≡ true
   pub least : (i : ℕ) → suc i < u → i ≢ p → lacks ws r i ≡ false
 
-abbrev pub Partner : List ℕ → (r p : ℕ) → Option ℕ → Type 0
+abbrev pub Partner : List ℕ → (r p : ℕ) → Option Variable → Type 0
 Partner ws r p None = (i : ℕ) → i < max_vars → i ≢ p → lacks ws r i ≡ false
-Partner ws r p (Some u) = IsPartner ws r p u
+Partner ws r p (Some u) = IsPartner ws r p u.number
 
 pub record FoundAt (ws : List ℕ) (k v r : ℕ) : Type 0 where
   pub below : r < k
@@ -69,7 +70,7 @@ pub record Turned (k p u q : ℕ) (b : Bool) (ws w : List ℕ) : Type 0 where
 
 pub data Took (k d code : ℕ) (ws w : List ℕ) : Bool → Type 0 where
   followed : (v : List ℕ) → Found ws k (variable code) None → Recorded d code ws v → Followed k (variable code - 1) (value code) v w → Took k d code ws w true
-  turned : (p u : ℕ) (z v : List ℕ) → Found ws k (variable code) (Some p) → Partner ws p (variable code - 1) (Some u) → Homed u p ws z → Recorded d code z v → Turned k p u (variable code - 1) (value code) v w → Took k d code ws w true
+  turned : (p u : ℕ) (z v : List ℕ) → Found ws k (variable code) (Some p) → IsPartner ws p (variable code - 1) u → Homed u p ws z → Recorded d code z v → Turned k p u (variable code - 1) (value code) v w → Took k d code ws w true
   stuck : (p : ℕ) → Found ws k (variable code) (Some p) → Partner ws p (variable code - 1) None → w ≡ ws → Took k d code ws w false
 
 abbrev pub Stepped : (k n d code : ℕ) → List ℕ → List ℕ → Offer → Type 0

@@ -115,7 +115,8 @@ listed_one c x o m = record { count = refl; few = omega arith; long = length-set
     rest i (inl z) = get_or-set_other o c i x 0 (λ (e : i ≡ c). absurd (omega arith))
     rest i (inr z) = get_or-set_other o c i x 0 (λ (e : i ≡ c). absurd (omega arith))
 
-pub listed_join : (n most at c x : ℕ) (l m out o o' : List ℕ) → ListPut n at l out o c → ListPut most c m o o' x → at + length (l ++ m) ≤ n → ListPut n at (l ++ m) out o' x
+pub listed_join : (n most at c x : ℕ) (l m out o o' : List ℕ) → ListPut n at l out o c → ListPut most c m o o' x → at + length (l ++ m) ≤ n
+    → ListPut n at (l ++ m) out o' x
 listed_join n most at c x l m out o o' h k room =
     let len = length-append l m in
     record { count = omega arith; few = omega arith; long = k.long ∙ h.long; used = λ i z. used i z (dec_lt i (length l)); rest = rest }

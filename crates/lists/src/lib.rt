@@ -10,17 +10,16 @@ ghost use Rattle.tableau.specs.View.{vals};
 ghost use Rattle.lists.specs.Listing.{numbers, is_new, is_other, FirstOnes, items, ListPut, RoomFor, WordsPut};
 
 use tableau::{FROM, KNOWN, ROW, TRUTH};
-use words::{bit, own, without};
+use words::{Ones, Variable, bit, own, without};
 
 // The code of the literal that gives v the value b.
-fn literal(v: usize, b: bool) -> u64
-    requires { v ≤ max_vars }
-    ensures { result ≡ code v b }
+fn literal(v: Variable, b: bool) -> u64
+    ensures { result ≡ code v.number b }
 {
     if b {
-        2 * (v as u64)
+        2 * (v.number as u64)
     } else {
-        2 * (v as u64) + 1
+        2 * (v.number as u64) + 1
     }
 }
 
@@ -42,14 +41,10 @@ fn list_word(x: u64, t: u64, s: u64, base: usize, at: usize, out: &mut [u64]) ->
     requires { (s ≤ 2) × (base + 64 ≤ max_vars) × (at + length (items 64 x t s base) ≤ length out.old) }
     ensures { ListPut (length out.old) at (items 64 x t s base) out.old out.new result }
 {
-    let mut rest = x;
     let mut c = at;
-    while rest != 0 {
-        // The top one that is left, by its place from below.
-        let j = 63 - u64::leading_zeros(rest) as usize;
-        out[c] = s * ((base + 64 - j) as u64) + (t >> j) % 2;
+    for i in Ones(x) {
+        out[c] = s * ((base + i + 1) as u64) + (t >> (63 - i)) % 2;
         c += 1;
-        rest = rest ^ (1 << j);
     }
     c
 }
@@ -77,9 +72,9 @@ fn list_words<F: Fn(usize) -> (u64, u64)>(
 }
 
 // The literals of the variables but v that have a value now and had none in old.
-pub fn list_new(work: &[u64], old: &[u64], v: usize, n: usize, out: &mut [u64]) -> usize
-    requires { (size ≤ length work.now) × (coef_words ≤ length old.now) × (n ≤ max_vars) × (n ≤ length out.old) × (0 < v) × (v ≤ max_vars) }
-    ensures { ListPut n 0 (scanned n (is_new work.now old.now v) (vals work.now truth_at)) out.old out.new result }
+pub fn list_new(work: &[u64], old: &[u64], v: Variable, n: usize, out: &mut [u64]) -> usize
+    requires { (size ≤ length work.now) × (coef_words ≤ length old.now) × (n ≤ max_vars) × (n ≤ length out.old) }
+    ensures { ListPut n 0 (scanned n (is_new work.now old.now v.number) (vals work.now truth_at)) out.old out.new result }
 {
     list_words(n, 2, 0, out, |w| {
         let x = without(work[KNOWN + w], old[w] | own(v, w));
@@ -100,9 +95,9 @@ pub fn list_known(work: &[u64], n: usize, out: &mut [u64]) -> usize
 }
 
 // From place 1 on, the negations of the values of the variables of row r but v.
-fn list_others(work: &[u64], r: usize, v: usize, n: usize, out: &mut [u64]) -> usize
-    requires { (size ≤ length work.now) × (r < max_rows) × (n ≤ max_vars) × (n ≤ length out.old) × (0 < v) × (v ≤ n) }
-    ensures { ListPut n 1 (scanned n (is_other work.now r v) (λ u. not (vals work.now truth_at u))) out.old out.new result }
+fn list_others(work: &[u64], r: usize, v: Variable, n: usize, out: &mut [u64]) -> usize
+    requires { (size ≤ length work.now) × (r < max_rows) × (n ≤ max_vars) × (n ≤ length out.old) × (v.number ≤ n) }
+    ensures { ListPut n 1 (scanned n (is_other work.now r v.number) (λ u. not (vals work.now truth_at u))) out.old out.new result }
 {
     list_words(n, 2, 1, out, |w| {
         let x = without(work[ROW * r + w], own(v, w));
@@ -112,10 +107,10 @@ fn list_others(work: &[u64], r: usize, v: usize, n: usize, out: &mut [u64]) -> u
 }
 
 // The clause of v, whose value row r gives: v's literal, then the negations.
-pub fn list_clause(work: &[u64], r: usize, v: usize, n: usize, out: &mut [u64]) -> usize
-    requires { (size ≤ length work.now) × (r < max_rows) × (n ≤ max_vars) × (n ≤ length out.old) × (0 < v) × (v ≤ n) }
-    ensures { ListPut n 0 (code v (bit_at work.now truth_at (v - 1)) ∷ scanned n (is_other work.now r v) (λ u. not (vals work.now truth_at u)))
-        out.old out.new result }
+pub fn list_clause(work: &[u64], r: usize, v: Variable, n: usize, out: &mut [u64]) -> usize
+    requires { (size ≤ length work.now) × (r < max_rows) × (n ≤ max_vars) × (n ≤ length out.old) × (v.number ≤ n) }
+    ensures { ListPut n 0 (code v.number (bit_at work.now truth_at (v.number - 1))
+        ∷ scanned n (is_other work.now r v.number) (λ u. not (vals work.now truth_at u))) out.old out.new result }
 {
     out[0] = literal(v, bit(work, TRUTH, v));
     list_others(work, r, v, n, out)

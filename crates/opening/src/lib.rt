@@ -11,16 +11,18 @@ ghost use Rattle.opening.specs.Opened.{Basics, Loaded, Reduced, RowDone, Answere
 use exchange::point;
 use settle::restart;
 use tableau::{FROM, FROM_WORDS, LAST, ROW, add_row, load, set_home, store, words_at};
-use words::{bit, lowest, own};
+use words::{Variable, bit, lowest, own};
 
 // The provenance of row k becomes row q of the sheet alone.
 fn mark_row(work: &mut [u64], q: usize, k: usize)
     requires { (size ≤ length work.old) × (q < max_rows) × (k < max_rows) }
     ensures { Run (from_at k) from_words (λ j. own_word q j) work.old work.new }
 {
+    // Rows of the sheet are counted here as variables are: row q is number q + 1.
+    let p = Variable { number: q + 1 };
     let a = ROW * k + FROM;
     for j in 0..FROM_WORDS {
-        work[a + j] = own(q + 1, j);
+        work[a + j] = own(p, j);
     }
 }
 
@@ -42,11 +44,13 @@ fn reduce_by(work: &mut [u64], k: usize, r: usize)
 {
     let x = work[ROW * r + LAST];
     // x / 2, written so that x / 2 - 1 is one shift
-    let v = (x - 2) / 2 + 1;
+    let v = Variable {
+        number: ((x - 2) / 2 + 1) as usize,
+    };
     // row k by itself, so that its place is not added for each row
     let a = ROW * k;
     let e = a + FROM;
-    if bit(&work[a..e], 0, v as usize) {
+    if bit(&work[a..e], 0, v) {
         add_row(work, r, k);
     }
 }
@@ -62,9 +66,9 @@ fn reduce(work: &mut [u64], k: usize)
 }
 
 // Row k is added into row r, which is before it, if that has the variable v.
-fn clear_row(work: &mut [u64], k: usize, v: usize, r: usize)
-    requires { (size ≤ length work.old) × (k < max_rows) × (r < k) × (0 < v) × (v ≤ max_vars) }
-    ensures { RowCleared k (v - 1) r work.old work.new }
+fn clear_row(work: &mut [u64], k: usize, v: Variable, r: usize)
+    requires { (size ≤ length work.old) × (k < max_rows) × (r < k) }
+    ensures { RowCleared k (v.number - 1) r work.old work.new }
 {
     if bit(work, ROW * r, v) {
         add_row(work, k, r);
@@ -72,20 +76,20 @@ fn clear_row(work: &mut [u64], k: usize, v: usize, r: usize)
 }
 
 // Whether row r or the next one has the variable v.
-fn in_two(work: &[u64], v: usize, r: usize) -> bool
-    requires { (size ≤ length work.now) × (r + 2 ≤ max_rows) × (0 < v) × (v ≤ max_vars) }
-    ensures { result ≡ (bit_at work.now (row_at r) (v - 1) || bit_at work.now (row_at (r + 1)) (v - 1)) }
+fn in_two(work: &[u64], v: Variable, r: usize) -> bool
+    requires { (size ≤ length work.now) × (r + 2 ≤ max_rows) }
+    ensures { result ≡ (bit_at work.now (row_at r) (v.number - 1) || bit_at work.now (row_at (r + 1)) (v.number - 1)) }
 {
-    let p = v - 1;
-    let a = ROW * r + p / 64;
+    let (w, d) = v.place();
+    let a = ROW * r + w;
     let x = work[a] | work[a + ROW];
-    (x >> (63 - p % 64)) % 2 == 1
+    (x >> d) % 2 == 1
 }
 
 // Row k is added into row r and into the next one, if they have the variable v. Mostly neither has, which one test tells.
-fn clear_two(work: &mut [u64], k: usize, v: usize, r: usize)
-    requires { (size ≤ length work.old) × (k < max_rows) × (r + 2 ≤ k) × (0 < v) × (v ≤ max_vars) }
-    ensures { Span (RowCleared k (v - 1)) r 2 work.old work.new }
+fn clear_two(work: &mut [u64], k: usize, v: Variable, r: usize)
+    requires { (size ≤ length work.old) × (k < max_rows) × (r + 2 ≤ k) }
+    ensures { Span (RowCleared k (v.number - 1)) r 2 work.old work.new }
 {
     if in_two(work, v, r) {
         clear_row(work, k, v, r);
@@ -94,9 +98,9 @@ fn clear_two(work: &mut [u64], k: usize, v: usize, r: usize)
 }
 
 // Row k is added into each row before it that has the variable v.
-fn clear_rows(work: &mut [u64], k: usize, v: usize)
-    requires { (size ≤ length work.old) × (k < max_rows) × (0 < v) × (v ≤ max_vars) }
-    ensures { Chain (RowCleared k (v - 1)) k work.old work.new }
+fn clear_rows(work: &mut [u64], k: usize, v: Variable)
+    requires { (size ≤ length work.old) × (k < max_rows) }
+    ensures { Chain (RowCleared k (v.number - 1)) k work.old work.new }
 {
     for i in 0..k / 2 {
         clear_two(work, k, v, 2 * i);
@@ -107,9 +111,9 @@ fn clear_rows(work: &mut [u64], k: usize, v: usize)
 }
 
 // Variable u becomes basic in row k, the last, and is removed from the rows before it.
-fn enter(work: &mut [u64], k: usize, u: usize)
-    requires { (size ≤ length work.old) × (k < max_rows) × (0 < u) × (u ≤ max_vars) }
-    ensures { Exchanged (k + 1) k u work.old work.new }
+fn enter(work: &mut [u64], k: usize, u: Variable)
+    requires { (size ≤ length work.old) × (k < max_rows) }
+    ensures { Exchanged (k + 1) k u.number work.old work.new }
 {
     clear_rows(work, k, u);
     point(work, k, u);

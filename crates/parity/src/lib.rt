@@ -13,7 +13,7 @@ use format::Refusal;
 use judge::Header;
 use opening::Contradiction;
 use tableau::{COEF_WORDS, KNOWN, SIZE};
-use words::bit;
+use words::{Variable, bit};
 
 // What open answers: unsatisfiable, with so many row numbers listed; open, with so many implied literals listed.
 #[derive(Clone, Copy, Debug, PartialEq, Eq)]
@@ -149,7 +149,8 @@ pub fn assume(h: Header, work: &mut [u64], literals: &mut [u64], code: usize) ->
         Offer::Held => Reply::done(h, Assuming::Held),
         Offer::Conflict => Reply::done(h, Assuming::Conflict(code / 2)),
         Offer::Taken => {
-            let count = lists::list_new(work, &old, code / 2, h.n, literals);
+            let v = Variable { number: code / 2 };
+            let count = lists::list_new(work, &old, v, h.n, literals);
             let depth = h.depth + 1;
             Reply::done(Header { depth, ..h }, Assuming::Taken(count))
         }
@@ -179,13 +180,14 @@ pub fn explain(
     ensures { ExplainPromise h work.now clause.old rows.old v result clause.new rows.new }
 {
     judge::judge_explain(h, work.len(), clause.len(), rows.len(), v)?;
-    if !bit(work, KNOWN, v) {
+    let variable = Variable { number: v };
+    if !bit(work, KNOWN, variable) {
         return Err(Refusal::Unexplained);
     }
-    let Some(r) = exchange::find(work, h.kept, v) else {
+    let Some(r) = exchange::find(work, h.kept, variable) else {
         return Err(Refusal::Unexplained);
     };
-    let codes = lists::list_clause(work, r, v, h.n, clause);
+    let codes = lists::list_clause(work, r, variable, h.n, clause);
     let numbers = lists::list_rows(work, r, h.m, rows);
     Ok(Explained { codes, numbers })
 }

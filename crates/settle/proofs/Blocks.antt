@@ -9,15 +9,14 @@ use mathlib.Core.Path.{◌≡◌, refl, sym, ap, ◌∙◌}
 use mathlib.Core.List.{List}
 use mathlib.Core.Bool.{true, false, true≢false}
 use mathlib.Core.Logic.{inl, inr}
-use Prim.Native.Nat.{ℕ, suc, ◌+◌, ◌*◌, ◌-◌, ◌/◌, ◌%◌, ◌^◌, ◌<◌, ◌≤◌}
+use Prim.Native.Nat.{ℕ, suc, ◌+◌, ◌-◌, ◌/◌, ◌<◌, ◌≤◌}
 use native.Mathlib.Decide.{dec_lt}
 use native.Mathlib.Omega.{arith}
-use lib.Bits.{bit_xor}
-use lib.Count.{count_leading_zeros}
 use lib.ListN.{length, get_or}
+use Rattle.words.specs.Ones.{Top}
 use Rattle.words.specs.Words.{bit_of, bit_at}
 use Rattle.words.proofs.Bits.{bit_same}
-use Rattle.words.proofs.Ones.{zeros_lt, Left, left_end, left_seen, left_top, left_skip, left_next}
+use Rattle.words.proofs.Tops.{Left, left_end, left_seen, left_top, left_skip, left_next}
 use Rattle.tableau.specs.Layout.{max_vars, max_rows, row_at, known_at}
 use Rattle.tableau.specs.Buffer.{Span, Column}
 use Rattle.tableau.proofs.Runs.{span_idle}
@@ -68,36 +67,30 @@ module _ (Step : ℕ → List ℕ → List ℕ → Type 0) (q e p x : ℕ) (ws :
       let s : b.seen + (e - (q + b.seen)) ≡ e - q = omega arith in
       rw s at (on (e - (q + b.seen)) (omega arith) (λ i f g. left_end x b.seen rest b.ones z i f (omega arith)))
 
-  module _ (pos : 0 < rest) where
-    abbrev top : ℕ
-    top = count_leading_zeros 64 rest
-
-    top_lt : top < 64
-    top_lt = zeros_lt rest pos b.ones.fits
-
-    pub block_row : q + count_leading_zeros 64 rest < e
-    block_row = go (dec_lt (q + top) e)
+  module _ (i after : ℕ) (t : Top rest i after) where
+    pub block_row : q + i < e
+    block_row = go (dec_lt (q + i) e)
       where
-        go : Dec (q + top < e) → q + top < e
+        go : Dec (q + i < e) → q + i < e
         go (yes h) = h
-        go (no h) = absurd (true≢false (sym (left_top x b.seen rest b.ones pos) ∙ col.none top top_lt (omega arith)))
+        go (no h) = absurd (true≢false (sym (left_top x b.seen rest i after b.ones t) ∙ col.none i t.place (omega arith)))
 
-    pub block_has : bit_at w (row_at (q + count_leading_zeros 64 rest)) p ≡ true
-    block_has = as_was (q + top) (omega (arith, left_seen x b.seen rest b.ones pos)) block_row ∙ sym (col.has top top_lt block_row) ∙ left_top x b.seen rest b.ones pos
+    pub block_has : bit_at w (row_at (q + i)) p ≡ true
+    block_has = as_was (q + i) (omega (arith, left_seen x b.seen rest i after b.ones t)) block_row ∙ sym (col.has i t.place block_row) ∙ left_top x b.seen rest i after b.ones t
 
-    pub block_next : (v : List ℕ) → length v ≡ length w → Step (q + count_leading_zeros 64 rest) w v → Block Step q e x ws v (bit_xor rest (1 * 2 ^ (63 - count_leading_zeros 64 rest) % 2 ^ 64))
+    pub block_next : (v : List ℕ) → length v ≡ length w → Step (q + i) w v → Block Step q e x ws v after
     block_next v l st =
         record {
-          seen = suc top;
+          seen = suc i;
           upto = omega (arith, block_row);
-          ones = left_next x b.seen rest b.ones pos;
+          ones = left_next x b.seen rest i after b.ones t;
           going = (w, b.len, before, st);
-          same = λ i f g. apart (q + top) w v st i (omega arith) g ∙ b.same i (omega (arith, left_seen x b.seen rest b.ones pos)) g;
+          same = λ j f g. apart (q + i) w v st j (omega arith) g ∙ b.same j (omega (arith, left_seen x b.seen rest i after b.ones t)) g;
           len = l ∙ b.len;
         }
       where
-        before : Span Step q top ws w
+        before : Span Step q i ws w
         before =
-            let f = left_seen x b.seen rest b.ones pos in
-            let s : b.seen + (top - b.seen) ≡ top = omega arith in
-            rw s at (on (top - b.seen) (omega (arith, block_row)) (λ i g h. left_skip x b.seen rest b.ones pos i g (omega arith)))
+            let f = left_seen x b.seen rest i after b.ones t in
+            let s : b.seen + (i - b.seen) ≡ i = omega arith in
+            rw s at (on (i - b.seen) (omega (arith, block_row)) (λ j g h. left_skip x b.seen rest i after b.ones t j g (omega arith)))

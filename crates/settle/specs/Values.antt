@@ -14,6 +14,7 @@
 use Rattle.std.specs.Prelude.{◌≡◌, List, Option, None, Some, ◌⊎◌, Bool, true, false, not, ◌&&◌, ◌||◌, ℕ, ◌+◌, ◌*◌, ◌-◌, ◌<◌, ◌≤◌, length, get_or}
 use Rattle.gf2.specs.Field.{◌⊕◌, xsum, same}
 use Rattle.gf2.specs.Answers.{variable, value}
+use Rattle.words.specs.declared.variable.Variable.{Variable}
 use Rattle.words.specs.Words.{bit_of, bit_at}
 use Rattle.tableau.specs.Layout.{max_vars, coef_words, row_at, known_at, truth_at, record_at}
 use Rattle.tableau.specs.Buffer.{Run, basic_at, parity_at, entry_at, Chain}
@@ -42,9 +43,9 @@ pub record Can (ws : List ℕ) (r : ℕ) : Type 0 where
   pub high : basic_at ws r ≤ max_vars
   pub alone : (i : ℕ) → i < max_vars → lacks ws r i ≡ same (basic_at ws r - 1) i
 
-abbrev pub Ready : List ℕ → ℕ → Option ℕ → Type 0
+abbrev pub Ready : List ℕ → ℕ → Option Variable → Type 0
 Ready ws r None = Can ws r → ⊥
-Ready ws r (Some v) = Can ws r × (v ≡ basic_at ws r)
+Ready ws r (Some v) = Can ws r × (v.number ≡ basic_at ws r)
 
 abbrev pub RowSettled : ℕ → List ℕ → List ℕ → Type 0
 RowSettled r ws w = ((w ≡ ws) × (Can ws r → ⊥)) ⊎ (Can ws r × Put (basic_at ws r - 1) (value_at ws r) ws w)

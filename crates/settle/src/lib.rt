@@ -2,26 +2,23 @@
 #![tactic(auto)]
 
 ghost use Rattle.std.specs.Prelude.{◌≡◌, ◌+◌, ◌*◌, ◌-◌, ◌<◌, ◌≤◌, length};
-ghost use Rattle.tableau.specs.Layout.{coef_words, max_vars, max_rows, max_taken, known_at, size};
+ghost use Rattle.tableau.specs.Layout.{coef_words, max_rows, max_taken, known_at, size};
 ghost use Rattle.tableau.specs.Buffer.{Run, Chain, Span};
 ghost use Rattle.settle.specs.Values.{Overlay, Sole, Put, value_at, Ready, RowSettled, EntrySet, Restarted, RowFollowed, Followed};
 
 use tableau::{CODES, COEF_WORDS, KNOWN, LAST, ROW, TRUTH, column, entry, load, words_at};
-use words::{odd, own, without};
+use words::{Ones, Variable, odd, own, without};
 
 // Variable v gets the value b.
-pub fn put(work: &mut [u64], v: usize, b: bool)
-    requires { (size ≤ length work.old) × (0 < v) × (v ≤ max_vars) }
-    ensures { Put (v - 1) b work.old work.new }
+pub fn put(work: &mut [u64], v: Variable, b: bool)
+    requires { size ≤ length work.old }
+    ensures { Put (v.number - 1) b work.old work.new }
 {
-    let p = v - 1;
-    let j = p / 64;
-    let k = KNOWN + j;
-    let t = TRUTH + j;
-    let mask = own(v, j);
+    let (w, _) = v.place();
+    let mask = own(v, w);
     let bit = if b { mask } else { 0 };
-    work[k] |= mask;
-    work[t] |= bit;
+    work[KNOWN + w] |= mask;
+    work[TRUTH + w] |= bit;
 }
 
 // The variables of row r without a value, its eight words laid over one another.
@@ -38,9 +35,9 @@ fn overlay(work: &[u64], r: usize) -> u64
 }
 
 // Whether v is the one variable of row r without a value, word by word.
-fn alone(work: &[u64], r: usize, v: usize) -> bool
-    requires { (size ≤ length work.now) × (r < max_rows) × (0 < v) × (v ≤ max_vars) }
-    ensures { Sole work.now r (v - 1) result }
+fn alone(work: &[u64], r: usize, v: Variable) -> bool
+    requires { (size ≤ length work.now) × (r < max_rows) }
+    ensures { Sole work.now r (v.number - 1) result }
 {
     let a = ROW * r;
     for j in 0..COEF_WORDS {
@@ -53,12 +50,13 @@ fn alone(work: &[u64], r: usize, v: usize) -> bool
 }
 
 // Whether v is the one variable of row r without a value. Most rows have another at another place of its word, which one test tells.
-fn sole(work: &[u64], r: usize, v: usize) -> bool
-    requires { (size ≤ length work.now) × (r < max_rows) × (0 < v) × (v ≤ max_vars) }
-    ensures { Sole work.now r (v - 1) result }
+fn sole(work: &[u64], r: usize, v: Variable) -> bool
+    requires { (size ≤ length work.now) × (r < max_rows) }
+    ensures { Sole work.now r (v.number - 1) result }
 {
     let over = overlay(work, r);
-    let mine = own(v, (v - 1) / 64);
+    let (w, _) = v.place();
+    let mine = own(v, w);
     if without(over, mine) != 0 {
         return false;
     }
@@ -75,7 +73,7 @@ fn value(work: &[u64], r: usize) -> bool
 }
 
 // The basic variable of row r, if it alone has no value in its row.
-fn ready(work: &[u64], r: usize) -> Option<usize>
+fn ready(work: &[u64], r: usize) -> Option<Variable>
     requires { (size ≤ length work.now) × (r < max_rows) }
     ensures { Ready work.now r result }
 {
@@ -86,11 +84,14 @@ fn ready(work: &[u64], r: usize) -> Option<usize>
     if x >= CODES {
         return None;
     }
-    let u = (x / 2) as usize;
-    if sole(work, r, u) { Some(u) } else { None }
+    let v = Variable {
+        number: (x / 2) as usize,
+    };
+    if sole(work, r, v) { Some(v) } else { None }
 }
 
 // Row r is settled: where its basic variable is its only one without a value, the row gives it one.
+#[inline(always)]
 pub fn settle_row(work: &mut [u64], r: usize)
     requires { (size ≤ length work.old) × (r < max_rows) }
     ensures { RowSettled r work.old work.new }
@@ -127,7 +128,9 @@ fn put_entry(work: &mut [u64], j: usize)
     let code = entry(work, j);
     if code >= 2 {
         if code < CODES {
-            let v = (code / 2) as usize;
+            let v = Variable {
+                number: (code / 2) as usize,
+            };
             put(work, v, code % 2 == 0);
         }
     }
@@ -154,22 +157,19 @@ pub fn restart(work: &mut [u64], k: usize, d: usize)
 }
 
 // Each row from q to below e, 64 at most, that has the variable v is settled.
-fn follow_block(work: &mut [u64], q: usize, e: usize, v: usize)
-    requires { (size ≤ length work.old) × (q < e) × (e ≤ q + 64) × (q + 64 ≤ max_rows) × (0 < v) × (v ≤ max_vars) }
-    ensures { Span (RowFollowed (v - 1)) q (e - q) work.old work.new }
+fn follow_block(work: &mut [u64], q: usize, e: usize, v: Variable)
+    requires { (size ≤ length work.old) × (q < e) × (e ≤ q + 64) × (q + 64 ≤ max_rows) }
+    ensures { Span (RowFollowed (v.number - 1)) q (e - q) work.old work.new }
 {
-    let mut rest = column(work, q, e, v);
-    while rest != 0 {
-        let i = u64::leading_zeros(rest) as usize;
+    for i in Ones(column(work, q, e, v)) {
         settle_row(work, q + i);
-        rest = rest ^ (1 << (63 - i));
     }
 }
 
 // Variable v gets the value b, and each row below k that has it is settled.
-pub fn follow(work: &mut [u64], k: usize, v: usize, b: bool)
-    requires { (size ≤ length work.old) × (k ≤ max_rows) × (0 < v) × (v ≤ max_vars) }
-    ensures { Followed k (v - 1) b work.old work.new }
+pub fn follow(work: &mut [u64], k: usize, v: Variable, b: bool)
+    requires { (size ≤ length work.old) × (k ≤ max_rows) }
+    ensures { Followed k (v.number - 1) b work.old work.new }
 {
     put(work, v, b);
     for block in 0..k.div_ceil(64) {

@@ -2,10 +2,10 @@
 #![tactic(auto)]
 
 ghost use Rattle.std.specs.Prelude.{◌≡◌, ◌+◌, ◌*◌, ◌-◌, ◌<◌, ◌≤◌, min, length, get_or};
-ghost use Rattle.tableau.specs.Layout.{coef_words, from_words, max_vars, max_rows, max_taken, row_at, from_at, home_step, size};
+ghost use Rattle.tableau.specs.Layout.{coef_words, from_words, max_rows, max_taken, row_at, from_at, home_step, size};
 ghost use Rattle.tableau.specs.Buffer.{Run, Slice, Added, entry_at, home_at, Recorded, Homed, Gathered, Column};
 
-use words::sum;
+use words::{Variable, sum};
 
 // The most variables.
 const MAX_VARS: u64 = 512;
@@ -104,47 +104,46 @@ pub fn set_entry(work: &mut [u64], j: usize, code: u64)
 }
 
 // The home of variable v: on a state of the module, its row if it is basic; of any other variable it says nothing.
-pub fn home(work: &[u64], v: usize) -> u64
-    requires { (size ≤ length work.now) × (0 < v) × (v ≤ max_vars) }
-    ensures { result ≡ home_at work.now v }
+pub fn home(work: &[u64], v: Variable) -> u64
+    requires { size ≤ length work.now }
+    ensures { result ≡ home_at work.now v.number }
 {
-    work[RECORD + (v - 1)] / HOME_STEP
+    work[RECORD + (v.number - 1)] / HOME_STEP
 }
 
 // Row r becomes the home of variable v.
-pub fn set_home(work: &mut [u64], v: usize, r: usize)
-    requires { (size ≤ length work.old) × (0 < v) × (v ≤ max_vars) × (r < max_rows) }
-    ensures { Homed v r work.old work.new }
+pub fn set_home(work: &mut [u64], v: Variable, r: usize)
+    requires { (size ≤ length work.old) × (r < max_rows) }
+    ensures { Homed v.number r work.old work.new }
 {
-    let at = RECORD + (v - 1);
+    let at = RECORD + (v.number - 1);
     let x = work[at];
     work[at] = x % HOME_STEP + HOME_STEP * (r as u64);
 }
 
 // Which of rows r and r + 1 have the variable v: a digit each, the lowest for row r + 1.
-fn two(work: &[u64], r: usize, v: usize) -> u64
-    requires { (size ≤ length work.now) × (r + 2 ≤ max_rows) × (0 < v) × (v ≤ max_vars) }
-    ensures { Gathered work.now r (r + 2) (v - 1) result }
+fn two(work: &[u64], r: usize, v: Variable) -> u64
+    requires { (size ≤ length work.now) × (r + 2 ≤ max_rows) }
+    ensures { Gathered work.now r (r + 2) (v.number - 1) result }
 {
-    let p = v - 1;
-    let d = 63 - p % 64;
-    let a = ROW * r + p / 64;
+    let (w, d) = v.place();
+    let a = ROW * r + w;
     2 * ((work[a] >> d) % 2) + (work[a + ROW] >> d) % 2
 }
 
 // Which of the four rows from r on have the variable v: a digit each, the lowest for row r + 3.
-fn four(work: &[u64], r: usize, v: usize) -> u64
-    requires { (size ≤ length work.now) × (r + 4 ≤ max_rows) × (0 < v) × (v ≤ max_vars) }
-    ensures { Gathered work.now r (r + 4) (v - 1) result }
+fn four(work: &[u64], r: usize, v: Variable) -> u64
+    requires { (size ≤ length work.now) × (r + 4 ≤ max_rows) }
+    ensures { Gathered work.now r (r + 4) (v.number - 1) result }
 {
     4 * two(work, r, v) + two(work, r + 2, v)
 }
 
 // Which rows from q to below e, 64 at most, have the variable v: a digit each, the top one for row q. They are read without a branch,
 // since which of them have it cannot be foreseen, and by eights: up to seven rows from e on are read too, which q + 64 ≤ max_rows allows.
-pub fn column(work: &[u64], q: usize, e: usize, v: usize) -> u64
-    requires { (size ≤ length work.now) × (q < e) × (e ≤ q + 64) × (q + 64 ≤ max_rows) × (0 < v) × (v ≤ max_vars) }
-    ensures { Column work.now q e (v - 1) result }
+pub fn column(work: &[u64], q: usize, e: usize, v: Variable) -> u64
+    requires { (size ≤ length work.now) × (q < e) × (e ≤ q + 64) × (q + 64 ≤ max_rows) }
+    ensures { Column work.now q e (v.number - 1) result }
 {
     let eights = (e - q).div_ceil(8);
     let mut x = 0;

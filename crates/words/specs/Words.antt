@@ -8,6 +8,7 @@
 -- Assumes nothing.
 use Rattle.std.specs.Prelude.{◌≡◌, Bool, true, false, cond, Option, None, Some, List, [], ◌∷◌, ℕ, zero, suc, ◌+◌, ◌-◌, ◌*◌, ◌/◌, ◌%◌, ◌^◌, ◌<◌, ◌≤◌, get_or, eqb}
 use Rattle.std.specs.Int.Bits.{bit_xor}
+use Rattle.words.specs.declared.variable.Variable.{Variable}
 
 abbrev pub digit : ℕ → Bool
 digit zero = false
@@ -33,6 +34,6 @@ pub record IsLowest (k : ℕ) (ws : List ℕ) (v : ℕ) : Type 0 where
   pub has : bit_at ws 0 (v - 1) ≡ true
   pub under : (i : ℕ) → suc i < v → bit_at ws 0 i ≡ false
 
-abbrev pub Lowest : ℕ → List ℕ → Option ℕ → Type 0
+abbrev pub Lowest : ℕ → List ℕ → Option Variable → Type 0
 Lowest k ws None = (i : ℕ) → i < k * 64 → bit_at ws 0 i ≡ false
-Lowest k ws (Some v) = IsLowest k ws v
+Lowest k ws (Some v) = IsLowest k ws v.number

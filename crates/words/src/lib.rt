@@ -5,6 +5,11 @@ ghost use Rattle.std.specs.Prelude.{◌≡◌, ◌&&◌, ◌+◌, ◌-◌, ◌<�
 ghost use Rattle.std.specs.Int.Bits.{bit_and, bit_xor};
 ghost use Rattle.gf2.specs.Field.{xsum};
 ghost use Rattle.words.specs.Words.{bit_at, xor_words, own_word, Lowest};
+ghost use Rattle.words.specs.Ones.{TakesTop, left};
+
+pub use variable::Variable;
+
+mod variable;
 
 // The sum of two rows, or of their provenance.
 pub fn sum<const W: usize>(a: [u64; W], b: [u64; W]) -> [u64; W]
@@ -29,24 +34,26 @@ pub fn odd(row: [u64; 8], truth: [u64; 8]) -> bool
 }
 
 // The lowest variable of a row.
-pub fn lowest(row: [u64; 8]) -> Option<usize>
+pub fn lowest(row: [u64; 8]) -> Option<Variable>
     ensures { Lowest 8 row result }
 {
     for (i, word) in row.iter().enumerate() {
         if *word != 0 {
-            return Some(i * 64 + word.leading_zeros() as usize + 1);
+            return Some(Variable {
+                number: i * 64 + word.leading_zeros() as usize + 1,
+            });
         }
     }
     None
 }
 
 // Word j of the row that has the variable v alone.
-pub fn own(v: usize, j: usize) -> u64
-    requires { (0 < v) × (v ≤ 512) × (j < 8) }
-    ensures { result ≡ own_word (v - 1) j }
+pub fn own(v: Variable, j: usize) -> u64
+    requires { j < 8 }
+    ensures { result ≡ own_word (v.number - 1) j }
 {
-    let p = v - 1;
-    if p / 64 == j { 1 << (63 - p % 64) } else { 0 }
+    let (w, d) = v.place();
+    if w == j { 1 << d } else { 0 }
 }
 
 // The ones of x that y does not have.
@@ -57,10 +64,31 @@ pub fn without(x: u64, y: u64) -> u64
 }
 
 // Whether the eight words from place a have the bit of variable v.
-pub fn bit(ws: &[u64], a: usize, v: usize) -> bool
-    requires { (a + 8 ≤ length ws.now) × (0 < v) × (v ≤ 512) }
-    ensures { result ≡ bit_at ws.now a (v - 1) }
+pub fn bit(ws: &[u64], a: usize, v: Variable) -> bool
+    requires { a + 8 ≤ length ws.now }
+    ensures { result ≡ bit_at ws.now a (v.number - 1) }
 {
-    let p = v - 1;
-    (ws[a + p / 64] >> (63 - p % 64)) % 2 == 1
+    let (w, d) = v.place();
+    (ws[a + w] >> d) % 2 == 1
+}
+
+// The places of a word's ones, the top one first: place 0 is the top bit.
+#[derive(Clone, Drop)]
+pub struct Ones(pub u64);
+
+impl Iterator for Ones {
+    type Item = usize;
+
+    ghost next_gives = { TakesTop };
+
+    ghost remaining = { left };
+
+    fn next(&mut self) -> Option<usize> {
+        if self.0 == 0 {
+            return None;
+        }
+        let i = self.0.leading_zeros() as usize;
+        self.0 ^= 1 << (63 - i);
+        Some(i)
+    }
 }

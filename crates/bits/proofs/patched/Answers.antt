@@ -1,9 +1,6 @@
 use Rattle.std.proofs.Common.{ap, arith, ℕ, ◌%◌, ◌*◌, ◌+◌, ◌-◌, ◌/◌, ◌<◌, ◌^◌, ◌∙◌}
-use Rattle.bits.proofs.Masks.{one_le_shl, patch_lt, patch_calc}
+use Rattle.bits.proofs.Masks.{patch_lt, patch_calc}
 use Rattle.bits.proofs.patched.Goals as goal
-
-pub overflow_sub-x : goal.overflow_sub-x
-overflow_sub-x c = one_le_shl (8 - c.args.off - c.args.t) (omega arith)
 
 pub overflow_cast-result : goal.overflow_cast-result
 overflow_cast-result c =

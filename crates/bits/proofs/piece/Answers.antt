@@ -1,9 +1,6 @@
 use Rattle.std.proofs.Common.{ap, arith, ℕ, ◌%◌, ◌-◌, ◌/◌, ◌^◌, ◌∙◌}
-use Rattle.bits.proofs.Masks.{mask, one_le_shl}
+use Rattle.bits.proofs.Masks.{mask}
 use Rattle.bits.proofs.piece.Goals as goal
-
-pub overflow_sub-result-3 : goal.overflow_sub-result-3
-overflow_sub-result-3 c = one_le_shl c.args.t (omega arith)
 
 pub returns : goal.returns
 returns c =

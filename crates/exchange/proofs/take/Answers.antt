@@ -15,10 +15,10 @@ turn-requires c =
     let l = f.below in
     let q = c.in-Some-partner.ensures in
     let has = partner_has _ _ _ _ _ (omega arith) q (λ i h. c.set_entry-2.ensures.rest i h ∙ c.set_home.ensures.rest i h) in
-    (search rules, omega arith, l, q.first, q.last, omega arith, omega arith, has)
+    (search rules, omega arith, l, has)
 
 pub returns : goal.returns
 returns c =
     let h = c.set_home in
     let e = c.set_entry-2 in
-    turned c.in-Some.p c.in-Some-partner.u h.new.work e.new.work c.in-Some.ensures c.in-Some-partner.ensures h.ensures e.ensures c.turn.ensures
+    turned c.in-Some.p c.in-Some-partner.u.number h.new.work e.new.work c.in-Some.ensures c.in-Some-partner.ensures h.ensures e.ensures c.turn.ensures

@@ -17,15 +17,14 @@ loop-block-preserved c =
 pub turn_block-requires : goal.turn_block-requires
 turn_block-requires c =
     let a = c.args in
-    let l = c.loop-block in (
+    let l = c.loop-block in
+    let u = a.u.number in (
       search rules,
       omega arith,
       omega arith,
       omega arith,
       omega arith,
-      omega arith,
-      omega arith,
-      pivot_stays a.p a.u (omega arith) (a.u - 1) (omega arith) _ _ l.work l.invariant
-          ∙ bit_same _ _ (row_at a.p) (row_at a.p) (a.u - 1) (c.put.ensures.rest (row_at a.p + (a.u - 1) / 64) (inl (omega arith)))
-          ∙ c.requires.7,
+      pivot_stays a.p u (omega arith) (u - 1) (omega arith) _ _ l.work l.invariant
+          ∙ bit_same _ _ (row_at a.p) (row_at a.p) (u - 1) (c.put.ensures.rest (row_at a.p + (u - 1) / 64) (inl (omega arith)))
+          ∙ c.requires.3,
     )

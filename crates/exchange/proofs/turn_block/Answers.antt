@@ -1,41 +1,40 @@
-use Rattle.std.proofs.Common.{arith, ◌-◌, ◌<◌}
-use Rattle.words.proofs.Ones.{zeros_lt, rest_less}
+use Rattle.std.proofs.Common.{arith, ◌-◌}
+use Rattle.tableau.specs.Buffer.{Column}
 use Rattle.settle.proofs.Blocks.{block-end, block_has, block_next}
 use Rattle.exchange.specs.Steps.{RowTurned}
 use Rattle.exchange.proofs.Passes.{turned_idle, turned_after}
 use Rattle.exchange.proofs.turn_block.Goals as goal
-use Rattle.exchange.proofs.turn_block.Goals.{In-loop-rest}
+use Rattle.exchange.proofs.turn_block.Goals.{After-into_iter-i-iterator}
 
--- something is left
-some : (c : In-loop-rest) → 0 < c.loop-rest.rest
-some c = omega (arith, c.loop-rest-test.true)
+-- the digits that the loop goes over
+digits : (c : After-into_iter-i-iterator) → Column c.args.work.now c.args.q c.args.e (c.args.u.number - 1) c.into_iter-i-iterator.result.0
+digits c = rw c.into_iter-i-iterator.ensures.into_iter_gives c.column.ensures
 
 pub turn_row-requires : goal.turn_row-requires
 turn_row-requires c =
-    let i = (goal.at.turn_row-requires c).In-loop-rest in
     let a = c.args in
-    let l = c.loop-rest in
+    let l = c.loop-i in
+    let u = a.u.number in
     let n = l.invariant.len in
-    let h = block_has (RowTurned a.p a.u) a.q a.e (a.u - 1) _ a.work.now (omega arith) (omega arith) (omega arith) c.column-rest.ensures
-    (turned_idle a.e a.p a.u _ c.requires.7) (turned_after a.p a.u) l.work l.rest l.invariant (some i) in
-    (omega arith, omega arith, omega (arith, zeros_lt l.rest (some i) l.invariant.ones.fits), omega arith, h)
+    let t = c.in-Some.ensures.steps in
+    let p = t.place in
+    let h = block_has (RowTurned a.p u) a.q a.e (u - 1) _ a.work.now (omega arith) (omega arith) (omega arith) (digits (goal.at.turn_row-requires c).After-into_iter-i-iterator)
+    (turned_idle a.e a.p u _ c.requires.5) (turned_after a.p u) l.work _ l.invariant _ _ t in
+    (omega arith, omega arith, omega arith, h)
 
-pub loop-rest-smaller : goal.loop-rest-smaller
-loop-rest-smaller c =
-    let i = (goal.at.loop-rest-smaller c).In-loop-rest in rest_less c.loop-rest.rest (some i) c.loop-rest.invariant.ones.fits
-
-pub loop-rest-preserved : goal.loop-rest-preserved
-loop-rest-preserved c =
-    let i = (goal.at.loop-rest-preserved c).In-loop-rest in
+pub loop-i-preserved : goal.loop-i-preserved
+loop-i-preserved c =
     let a = c.args in
-    let l = c.loop-rest in
+    let l = c.loop-i in
+    let u = a.u.number in
     let t = c.turn_row in
-    block_next (RowTurned a.p a.u) a.q a.e (a.u - 1) _ a.work.now (omega arith) (omega arith) (omega arith) c.column-rest.ensures
-    (turned_idle a.e a.p a.u _ c.requires.7) (turned_after a.p a.u) l.work l.rest l.invariant (some i) _ t.auto.work t.ensures
+    block_next (RowTurned a.p u) a.q a.e (u - 1) _ a.work.now (omega arith) (omega arith) (omega arith) (digits (goal.at.loop-i-preserved c).After-into_iter-i-iterator)
+    (turned_idle a.e a.p u _ c.requires.5) (turned_after a.p u) l.work _ l.invariant _ _ c.in-Some.ensures.steps _ t.auto.work t.ensures
 
 pub returns : goal.returns
 returns c =
     let a = c.args in
-    let l = c.loop-rest in
-    block-end (RowTurned a.p a.u) a.q a.e (a.u - 1) _ a.work.now (omega arith) (omega arith) (omega arith) c.column-rest.ensures
-    (turned_idle a.e a.p a.u _ c.requires.7) (turned_after a.p a.u) l.work l.rest l.invariant (omega (arith, c.loop-rest-test.false))
+    let l = c.loop-i in
+    let u = a.u.number in
+    block-end (RowTurned a.p u) a.q a.e (u - 1) _ a.work.now (omega arith) (omega arith) (omega arith) (digits (goal.at.returns c).After-into_iter-i-iterator)
+    (turned_idle a.e a.p u _ c.requires.5) (turned_after a.p u) l.work _ l.invariant c.in-None.ensures.steps.0

@@ -1,4 +1,4 @@
-use Rattle.std.proofs.Common.{arith, rules}
+use Rattle.std.proofs.Common.{rules}
 use Rattle.lists.proofs.Lists.{same_new, few_ones}
 use Rattle.lists.proofs.list_new.Goals as goal
 
@@ -9,4 +9,4 @@ pub returns : goal.returns
 returns c =
     let a = c.args in
     let h = c.list_words.ensures in
-    rw (same_new a.work.now a.n h.words a.old.now a.v (omega arith) (λ w l. let g = h.given w l in search rules)) at h.listed
+    rw (same_new a.work.now a.n h.words a.old.now a.v.number a.v.first (λ w l. let g = h.given w l in search rules)) at h.listed

@@ -19,7 +19,7 @@ returns-in-Some c =
     record {
       begun = l.new.work;
       left = d.new.work;
-      u = c.in-Some.u;
+      u = c.in-Some.u.number;
       loaded = l.ensures;
       reduced = d.ensures;
       lowest = lowest_read _ _ _ c.load.ensures _ c.in-Some.ensures;

@@ -20,7 +20,13 @@ list_new-count-requires c =
     let a = c.args in
     let j = assume_judged a.h (length a.work.now) (length a.literals.now) a.code (sym c.in_default.ensures) in
     let r = (replaced_worked a.work.now c.step.new.work j.1 c.step.auto.work).long in
-    (omega (arith, r, j.1), search rules, j.0.vars, j.2, omega (arith, j.3), omega (arith, j.4, j.0.vars))
+    (omega (arith, r, j.1), search rules, j.0.vars, j.2)
+
+pub invariant_of-v : goal.invariant_of-v
+invariant_of-v c =
+    let a = c.args in
+    let j = assume_judged a.h (length a.work.now) (length a.literals.now) a.code (sym c.in_default.ensures) in
+    record { first = omega (arith, j.3); last = omega (arith, j.4, j.0.vars) }
 
 pub returns-in-Held : goal.returns-in-Held
 returns-in-Held c =

@@ -3,6 +3,12 @@ use Rattle.judge.proofs.Judged.{explain_judged}
 use Rattle.parity.proofs.Explaineds.{promise_no_value, promise_assumed, promise_explained}
 use Rattle.parity.proofs.explain.Goals as goal
 
+pub invariant_of-variable : goal.invariant_of-variable
+invariant_of-variable c =
+    let a = c.args in
+    let j = explain_judged a.h (length a.work.now) (length a.clause.now) (length a.rows.now) a.v (sym c.in_ok-judge_explain.ensures) in
+    record { first = j.4.low; last = omega (arith, j.4.high, j.0.vars) }
+
 pub returns-then-not-bit : goal.returns-then-not-bit
 returns-then-not-bit c =
     let a = c.args in
@@ -12,7 +18,7 @@ pub find-requires : goal.find-requires
 find-requires c =
     let a = c.args in
     let j = explain_judged a.h (length a.work.now) (length a.clause.now) (length a.rows.now) a.v (sym c.in_ok-judge_explain.ensures) in
-    (j.1, omega (arith, j.0.kept, j.0.rows), j.4.low, omega (arith, j.4.high, j.0.vars))
+    (j.1, omega (arith, j.0.kept, j.0.rows))
 
 pub returns-in_default : goal.returns-in_default
 returns-in_default c =
@@ -23,7 +29,7 @@ pub list_clause-codes-requires : goal.list_clause-codes-requires
 list_clause-codes-requires c =
     let a = c.args in
     let j = explain_judged a.h (length a.work.now) (length a.clause.now) (length a.rows.now) a.v (sym c.in_ok-judge_explain.ensures) in
-    (j.1, omega (arith, c.in-Some.ensures.below, j.0.kept, j.0.rows), j.0.vars, j.2, j.4.low, j.4.high)
+    (j.1, omega (arith, c.in-Some.ensures.below, j.0.kept, j.0.rows), j.0.vars, j.2, j.4.high)
 
 pub list_rows-numbers-requires : goal.list_rows-numbers-requires
 list_rows-numbers-requires c =

@@ -4,4 +4,4 @@ use Rattle.settle.specs.Values.{lacks}
 use Rattle.settle.proofs.alone.Given as goal
 
 abbrev pub invariant-loop-j : goal.invariant-loop-j
-invariant-loop-j l = (i : ℕ) → i < l.j * 64 → lacks l.work l.r i ≡ same (l.v - 1) i
+invariant-loop-j l = (i : ℕ) → i < l.j * 64 → lacks l.work l.r i ≡ same (l.v.number - 1) i

@@ -1,32 +1,27 @@
-use Rattle.std.proofs.Common.{arith, inr, ◌-◌, ◌<◌}
-use Rattle.words.proofs.Ones.{rest_less}
+use Rattle.std.proofs.Common.{arith, inr, ◌-◌}
+use Rattle.tableau.specs.Buffer.{Column}
 use Rattle.settle.specs.Values.{RowFollowed}
 use Rattle.settle.proofs.Blocks.{followed_idle, followed_apart, block-end, block_has, block_next}
 use Rattle.settle.proofs.follow_block.Goals as goal
-use Rattle.settle.proofs.follow_block.Goals.{In-loop-rest}
+use Rattle.settle.proofs.follow_block.Goals.{After-into_iter-i-iterator}
 
--- something is left
-some : (c : In-loop-rest) → 0 < c.loop-rest.rest
-some c = omega (arith, c.loop-rest-test.true)
+-- the digits that the loop goes over
+digits : (c : After-into_iter-i-iterator) → Column c.args.work.now c.args.q c.args.e (c.args.v.number - 1) c.into_iter-i-iterator.result.0
+digits c = rw c.into_iter-i-iterator.ensures.into_iter_gives c.column.ensures
 
-pub loop-rest-smaller : goal.loop-rest-smaller
-loop-rest-smaller c =
-    let i = (goal.at.loop-rest-smaller c).In-loop-rest in rest_less c.loop-rest.rest (some i) c.loop-rest.invariant.ones.fits
-
-pub loop-rest-preserved : goal.loop-rest-preserved
-loop-rest-preserved c =
-    let i = (goal.at.loop-rest-preserved c).In-loop-rest in
+pub loop-i-preserved : goal.loop-i-preserved
+loop-i-preserved c =
     let a = c.args in
-    let l = c.loop-rest in
-    let g = c.column-rest.ensures in
-    let h = block_has (RowFollowed (a.v - 1)) a.q a.e (a.v - 1) _ a.work.now (omega arith) (omega arith) (omega arith) g
-    (followed_idle a.e (a.v - 1) _) (followed_apart (a.v - 1)) l.work l.rest l.invariant (some i) in
-    block_next (RowFollowed (a.v - 1)) a.q a.e (a.v - 1) _ a.work.now (omega arith) (omega arith) (omega arith) g
-    (followed_idle a.e (a.v - 1) _) (followed_apart (a.v - 1)) l.work l.rest l.invariant (some i) _ c.settle_row.auto.work (inr (h, c.settle_row.ensures))
+    let l = c.loop-i in
+    let p = a.v.number - 1 in
+    let t = c.in-Some.ensures.steps in
+    let g = digits (goal.at.loop-i-preserved c).After-into_iter-i-iterator in
+    let h = block_has (RowFollowed p) a.q a.e p _ a.work.now (omega arith) (omega arith) (omega arith) g (followed_idle a.e p _) (followed_apart p) l.work l.i-iterator.0 l.invariant _ _ t in
+    block_next (RowFollowed p) a.q a.e p _ a.work.now (omega arith) (omega arith) (omega arith) g (followed_idle a.e p _) (followed_apart p) l.work l.i-iterator.0 l.invariant _ _ t _ c.settle_row.auto.work (inr (h, c.settle_row.ensures))
 
 pub returns : goal.returns
 returns c =
     let a = c.args in
-    let l = c.loop-rest in
-    block-end (RowFollowed (a.v - 1)) a.q a.e (a.v - 1) _ a.work.now (omega arith) (omega arith) (omega arith) c.column-rest.ensures
-    (followed_idle a.e (a.v - 1) _) (followed_apart (a.v - 1)) l.work l.rest l.invariant (omega (arith, c.loop-rest-test.false))
+    let l = c.loop-i in
+    let p = a.v.number - 1 in
+    block-end (RowFollowed p) a.q a.e p _ a.work.now (omega arith) (omega arith) (omega arith) (digits (goal.at.returns c).After-into_iter-i-iterator) (followed_idle a.e p _) (followed_apart p) l.work l.i-iterator.0 l.invariant c.in-None.ensures.steps.0

@@ -3,8 +3,5 @@ use Rattle.settle.specs.Values.{RowFollowed}
 use Rattle.settle.proofs.Blocks.{Block}
 use Rattle.settle.proofs.follow_block.Given as goal
 
-abbrev pub invariant-loop-rest : goal.invariant-loop-rest
-invariant-loop-rest l = Block (RowFollowed (l.v - 1)) l.q l.e l.initial.rest l.initial.work l.work l.rest
-
-abbrev pub decreases-loop-rest : goal.decreases-loop-rest
-decreases-loop-rest l = l.rest
+abbrev pub invariant-loop-i : goal.invariant-loop-i
+invariant-loop-i l = Block (RowFollowed (l.fn.v.number - 1)) l.q l.e l.initial.i-iterator.0 l.initial.work l.work l.i-iterator.0

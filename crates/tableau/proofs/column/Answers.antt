@@ -28,12 +28,12 @@ pub loop-i-preserved : goal.loop-i-preserved
 loop-i-preserved c =
     let a = c.args in
     let r = a.q + 8 * c.loop-i.i in
-    let upper = gathered_join a.work.now a.q r (r + 4) 4 (a.v - 1) _ _ (omega arith) refl c.loop-i.invariant c.four.ensures in
-    gathered_join a.work.now a.q (r + 4) _ 4 (a.v - 1) _ _ (omega arith) (omega arith) upper c.four-in-loop-i.ensures
+    let upper = gathered_join a.work.now a.q r (r + 4) 4 (a.v.number - 1) _ _ (omega arith) refl c.loop-i.invariant c.four.ensures in
+    gathered_join a.work.now a.q (r + 4) _ 4 (a.v.number - 1) _ _ (omega arith) (omega arith) upper c.four-in-loop-i.ensures
 
 pub returns : goal.returns
 returns c =
     let a = c.args in
     let n : a.q + 8 * c.loop-i.i - a.e ≡ 8 * c.div_ceil-eights.result - (a.e - a.q) = omega arith in
-    let rows = gathered_drop a.work.now a.q a.e (a.q + 8 * c.loop-i.i) (a.v - 1) c.loop-i.x (omega arith) (omega arith) c.loop-i.invariant in
-    column_done a.work.now a.q a.e (a.v - 1) _ (omega arith) (omega arith) (rw n at rows)
+    let rows = gathered_drop a.work.now a.q a.e (a.q + 8 * c.loop-i.i) (a.v.number - 1) c.loop-i.x (omega arith) (omega arith) c.loop-i.invariant in
+    column_done a.work.now a.q a.e (a.v.number - 1) _ (omega arith) (omega arith) (rw n at rows)

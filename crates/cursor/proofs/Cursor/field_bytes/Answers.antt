@@ -1,4 +1,4 @@
-use Rattle.std.proofs.Common.{ap, ap₂, arith, drop, get_or, mod-lt, pow_pos, refl, rules, sym, take, ℕ, ◌%◌, ◌*◌, ◌+◌, ◌-◌, ◌/◌, ◌<◌, ◌^◌, ◌∙◌, ◌≡◌}
+use Rattle.std.proofs.Common.{ap₂, arith, get_or, mod-lt, pow_pos, refl, rules, sym, ℕ, ◌%◌, ◌*◌, ◌+◌, ◌-◌, ◌/◌, ◌<◌, ◌^◌, ◌∙◌}
 use Rattle.bits.proofs.Masks.{joined}
 use Rattle.format.proofs.Bytes.{length-bits_of, field_step}
 use Rattle.format.proofs.Values.{field_lt}
@@ -22,10 +22,3 @@ loop-done-preserved c =
           ∙ ap₂ (λ (x y : ℕ). x * 2 ^ t + y) l.invariant.1 c.piece-p.ensures
           ∙ sym (field_step a.s.now a.self.at l.done t (omega arith) (omega arith)),
     )
-
-pub returns : goal.returns
-returns c =
-    let l = c.loop-done in
-    let a = c.args in
-    let e : l.done ≡ a.count = omega arith in
-    (l.invariant.1 ∙ ap (λ (k : ℕ). value_of (take k (drop a.self.at (bits_of a.s.now)))) e, refl)

@@ -1,22 +1,13 @@
-use Rattle.std.proofs.Common.{ap, ap₂, arith, div-one, get_or, length-set, mod-lt, pow_pos, refl, rules, ℕ, ◌%◌, ◌*◌, ◌+◌, ◌-◌, ◌/◌, ◌^◌, ◌∙◌, ◌≡◌}
-use Rattle.bits.proofs.Masks.{mask, one_le_shl}
+use Rattle.std.proofs.Common.{ap, arith, get_or, length-set, refl, rules, ℕ, ◌%◌, ◌*◌, ◌+◌, ◌-◌, ◌/◌, ◌^◌, ◌∙◌, ◌≡◌}
+use Rattle.bits.proofs.Masks.{mask}
 use Rattle.format.proofs.Bytes.{length-bits_of}
 use Rattle.format.proofs.Puts.{put_at-none, put_step}
-use Rattle.format.specs.Bits.{bits_n, bits_of, put_at}
+use Rattle.format.specs.Bits.{bits_n, bits_of}
 use Rattle.cursor.proofs.Cursor.put_bytes.Goals as goal
 
 pub loop-done-init : goal.loop-done-init
 unfolding bits_n
 loop-done-init c = (search rules, refl, put_at-none (bits_of c.args.s.now) c.args.self.at)
-
-pub overflow_sub-p-in-loop-done-2 : goal.overflow_sub-p-in-loop-done-2
-overflow_sub-p-in-loop-done-2 c = one_le_shl c.min-t.result (omega arith)
-
-pub patched-x-requires : goal.patched-x-requires
-patched-x-requires c =
-    let a = c.args in
-    let k = a.count - c.loop-done.done - c.min-t.result in
-    (search rules, rw (mask (a.value / 2 ^ k) c.min-t.result (omega arith)) (mod-lt (a.value / 2 ^ k) (pow_pos c.min-t.result)))
 
 pub loop-done-preserved : goal.loop-done-preserved
 loop-done-preserved c =
@@ -31,15 +22,4 @@ loop-done-preserved c =
       search rules,
       length-set l.s (i / 8) c.patched-x.result ∙ l.invariant.1,
       put_step (bits_of a.s.now) l.s a.self.at a.count l.done t a.value (rw length-bits_of (omega arith)) (omega arith) (omega arith) (omega arith) l.invariant.2 c.patched-x.result e,
-    )
-
-pub returns : goal.returns
-returns c =
-    let l = c.loop-done in
-    let a = c.args in
-    let e : l.done ≡ a.count = omega arith in
-    let z : a.count - l.done ≡ 0 = omega arith in (
-      l.invariant.2 ∙ ap₂ (λ (k j : ℕ). put_at (bits_of a.s.now) a.self.at (bits_n k (a.value / 2 ^ j))) e z
-          ∙ ap (λ (v : ℕ). put_at (bits_of a.s.now) a.self.at (bits_n a.count v)) (div-one a.value),
-      refl,
     )

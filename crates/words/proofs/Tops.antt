@@ -18,6 +18,7 @@ use native.Mathlib.Omega.{arith}
 use lib.Bits.{bit_xor, xor_block, xor_self, xor_zero_r, shifted_even}
 use lib.Count.{count_leading_zeros, leading_top}
 use lib.Pow.{pow_pos, pow_mono, pow-lt, pow-add, shr-shr, shl-shr, low, field, mod-mod-pow}
+use Rattle.words.specs.Ones.{Top}
 use Rattle.words.specs.Words.{digit, bit_of, bit_at, IsLowest}
 use Rattle.words.proofs.Bits.{zero_bits, bit_front, lowest_found}
 
@@ -49,16 +50,16 @@ module _ (rest : ℕ) (pos : 0 < rest) (fits : rest < 2 ^ 64) where
   found : IsLowest 1 (rest ∷ []) (0 * 64 + zeros + 1)
   found = lowest_found (rest ∷ []) 0 pos fits 1 (omega arith) (λ j l. absurd (not-suc-le-zero l))
 
-  pub zeros_lt : count_leading_zeros 64 rest < 64
+  zeros_lt : count_leading_zeros 64 rest < 64
   zeros_lt = omega (arith, found.last)
 
   in_list : (i : ℕ) → i < 64 → bit_of rest (63 - i) ≡ bit_at (rest ∷ []) 0 i
   in_list i l = let e : 0 * 64 + i ≡ i = omega arith in sym (bit_front (rest ∷ []) 0 i l) ∙ ap (bit_at (rest ∷ []) 0) e
 
-  pub top_one : bit_of rest (63 - count_leading_zeros 64 rest) ≡ true
+  top_one : bit_of rest (63 - count_leading_zeros 64 rest) ≡ true
   top_one = in_list zeros zeros_lt ∙ ap (bit_at (rest ∷ []) 0) (let q : zeros ≡ 0 * 64 + zeros + 1 - 1 = omega arith in q) ∙ found.has
 
-  pub above_top : (i : ℕ) → i < count_leading_zeros 64 rest → bit_of rest (63 - i) ≡ false
+  above_top : (i : ℕ) → i < count_leading_zeros 64 rest → bit_of rest (63 - i) ≡ false
   above_top i l = in_list i (omega (arith, zeros_lt)) ∙ found.under i (omega arith)
 
   abbrev place : ℕ
@@ -95,17 +96,29 @@ module _ (rest : ℕ) (pos : 0 < rest) (fits : rest < 2 ^ 64) where
   lower_mod : lower ≡ rest % 2 ^ place
   lower_mod = sym (ap (λ (y : ℕ). y % 2 ^ place) parts ∙ low 1 place lower_lt)
 
-  pub rest_less : bit_xor rest (1 * 2 ^ (63 - count_leading_zeros 64 rest) % 2 ^ 64) < rest
+  rest_less : bit_xor rest (1 * 2 ^ (63 - count_leading_zeros 64 rest) % 2 ^ 64) < rest
   rest_less = let p = pow_pos place in omega (arith, after_lower, span.0)
 
-  pub gone_after : (i : ℕ) → i < suc (count_leading_zeros 64 rest) → bit_of (bit_xor rest (1 * 2 ^ (63 - count_leading_zeros 64 rest) % 2 ^ 64)) (63 - i) ≡ false
+  gone_after : (i : ℕ) → i < suc (count_leading_zeros 64 rest) → bit_of (bit_xor rest (1 * 2 ^ (63 - count_leading_zeros 64 rest) % 2 ^ 64)) (63 - i) ≡ false
   gone_after i l =
       let g : place ≤ 63 - i = omega arith in
       ap (λ (y : ℕ). bit_of y (63 - i)) after_lower
       ∙ ap (λ (y : ℕ). digit (y % 2)) (div-eq_of_lt (lt_of_lt_of_le lower_lt (pow_mono g)))
 
-  pub left_after : (i : ℕ) → suc (count_leading_zeros 64 rest) ≤ i → i < 64 → bit_of (bit_xor rest (1 * 2 ^ (63 - count_leading_zeros 64 rest) % 2 ^ 64)) (63 - i) ≡ bit_of rest (63 - i)
+  left_after : (i : ℕ) → suc (count_leading_zeros 64 rest) ≤ i → i < 64 → bit_of (bit_xor rest (1 * 2 ^ (63 - count_leading_zeros 64 rest) % 2 ^ 64)) (63 - i) ≡ bit_of rest (63 - i)
   left_after i a b = ap (λ (y : ℕ). bit_of y (63 - i)) (after_lower ∙ lower_mod) ∙ digit_below rest place (63 - i) (omega arith)
+
+-- the top one is taken away
+pub top_taken : (rest : ℕ) → 0 < rest → rest < 2 ^ 64 → Top rest (count_leading_zeros 64 rest) (bit_xor rest (1 * 2 ^ (63 - count_leading_zeros 64 rest) % 2 ^ 64))
+top_taken rest pos fits =
+    record {
+      place = zeros_lt rest pos fits;
+      has = top_one rest pos fits;
+      above = above_top rest pos fits;
+      gone = λ j l. gone_after rest pos fits j (omega arith);
+      rest = λ j a b. left_after rest pos fits j (omega arith) b;
+      less = rest_less rest pos fits;
+    }
 
 -- ---- the ones taken away one after another
 pub record Left (x seen rest : ℕ) : Type 0 where
@@ -120,25 +133,25 @@ left_start x f = record { low = omega arith; gone = λ i h. absurd (not-suc-le-z
 pub left_end : (x seen rest : ℕ) → Left x seen rest → rest ≡ 0 → (i : ℕ) → seen ≤ i → i < 64 → bit_of x (63 - i) ≡ false
 left_end x seen rest h z i a b = sym (h.left i a b) ∙ ap (λ (y : ℕ). bit_of y (63 - i)) z ∙ zero_bits (63 - i)
 
-module _ (x seen rest : ℕ) (h : Left x seen rest) (pos : 0 < rest) where
-  pub left_seen : seen ≤ count_leading_zeros 64 rest
-  left_seen = go (dec_lt (count_leading_zeros 64 rest) seen)
+module _ (x seen rest i after : ℕ) (h : Left x seen rest) (t : Top rest i after) where
+  pub left_seen : seen ≤ i
+  left_seen = go (dec_lt i seen)
     where
-      go : Dec (count_leading_zeros 64 rest < seen) → seen ≤ count_leading_zeros 64 rest
-      go (yes l) = absurd (true≢false (sym (top_one rest pos h.fits) ∙ h.gone (count_leading_zeros 64 rest) l))
+      go : Dec (i < seen) → seen ≤ i
+      go (yes l) = absurd (true≢false (sym t.has ∙ h.gone i l))
       go (no l) = omega arith
 
-  pub left_top : bit_of x (63 - count_leading_zeros 64 rest) ≡ true
-  left_top = sym (h.left (count_leading_zeros 64 rest) left_seen (zeros_lt rest pos h.fits)) ∙ top_one rest pos h.fits
+  pub left_top : bit_of x (63 - i) ≡ true
+  left_top = sym (h.left i left_seen t.place) ∙ t.has
 
-  pub left_skip : (i : ℕ) → seen ≤ i → i < count_leading_zeros 64 rest → bit_of x (63 - i) ≡ false
-  left_skip i a b = sym (h.left i a (omega (arith, zeros_lt rest pos h.fits))) ∙ above_top rest pos h.fits i b
+  pub left_skip : (j : ℕ) → seen ≤ j → j < i → bit_of x (63 - j) ≡ false
+  left_skip j a b = let p = t.place in sym (h.left j a (omega arith)) ∙ t.above j b
 
-  pub left_next : Left x (suc (count_leading_zeros 64 rest)) (bit_xor rest (1 * 2 ^ (63 - count_leading_zeros 64 rest) % 2 ^ 64))
+  pub left_next : Left x (suc i) after
   left_next =
       record {
-        low = zeros_lt rest pos h.fits;
-        gone = gone_after rest pos h.fits;
-        left = λ i a b. left_after rest pos h.fits i a b ∙ h.left i (omega (arith, left_seen)) b;
-        fits = let l = h.fits in omega (arith, rest_less rest pos h.fits);
+        low = t.place;
+        gone = λ j l. t.gone j (omega arith);
+        left = λ j a b. t.rest j (omega arith) b ∙ h.left j (omega (arith, left_seen)) b;
+        fits = let l = h.fits in omega (arith, t.less);
       }
