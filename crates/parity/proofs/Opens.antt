@@ -2,7 +2,7 @@
 --   all_zero        the header of numbers that are all zero
 --   open_judged     what opening may rely on once no check holds
 --   promise_rows    no check holds: the rows went in, or one contradicted
---   fill_fine, promise_filled   the same, with n and m as they were read
+--   promise_filled  the same, with n and m as they were read
 -- Assumes nothing.
 use mathlib.Core.Path.{◌≡◌, refl, sym, ap, ◌∙◌, subst}
 use mathlib.Core.Bool.{Bool, false}
@@ -29,7 +29,7 @@ use Rattle.linear.proofs.Taking.{takes_fails, kept_length}
 use Rattle.linear.proofs.Explaining.{made_kept}
 use Rattle.format.specs.Bits.{bits_of}
 use Rattle.format.specs.Refusals.{refusal}
-use Rattle.format.specs.Sheet.{n_of, m_of, bits_for, row_of, sheet_rows, store_words, reader}
+use Rattle.format.specs.Sheet.{n_of, m_of, row_of, sheet_rows, store_words, reader}
 use Rattle.format.proofs.Refusing.{append-some, none_either}
 use Rattle.format.proofs.Refusing as refusing
 use Rattle.format.proofs.Accepted.{Accepted, accepted}
@@ -225,12 +225,6 @@ module _ (old : Header) (s store work literals rows : List ℕ) where
     promise_rows _ _ _ _ _ (stopped k ws x rs e a l) = promise_unsatisfiable k ws x rs e a l
 
 -- ---- as the code has it: n and m as they were read
-module _ (s : List ℕ) (store words literals rows : ℕ) (shape : Shape) (e : IsOpenReading s store words literals rows (Ok shape)) where
-  pub fill_fine : (bits_for shape.n shape.m ≤ 8 * length s) × (9 * shape.m ≤ store) × (size ≤ words) × (shape.n ≤ literals) × (shape.m ≤ rows)
-  fill_fine =
-      let j = open_judged s store words literals rows e.0 in
-      rw (e.1.n_is, e.1.m_is) (let z = j.0.size in omega arith, j.0.room_enough, j.1, j.2, j.3)
-
 pub promise_filled : (old : Header) (s store work literals rows : List ℕ) (shape : Shape)
     → IsOpenReading s (length store) (length work) (length literals) (length rows) (Ok shape)
     → (store' : List ℕ) → store' ≡ store_words shape.n shape.m (drop 19 (bits_of s)) ++ drop (9 * shape.m) store
