@@ -12,6 +12,7 @@ ghost use Rattle.sheet.specs.Rewriter.{Rewrites};
 
 use cursor::{Cursor, Shape};
 use format::Refusal;
+
 // A row of a sheet: eight words of coefficients, variable 1 in the top bit of the first, the parity, and the cursor behind it.
 #[derive(Clone, Copy)]
 pub struct Row {
@@ -112,19 +113,19 @@ pub fn read(s: &[u8], store: &mut [u64]) -> Result<Shape, Refusal>
 
 // ---- writing
 
-// Puts the row that stands in the store from base on at the cursor.
-fn put_row(at: Cursor, out: &mut [u8], store: &[u64], base: usize, shape: Shape) -> Cursor
-    requires { (base + 9 ≤ length store.now) × (at.at + (shape.n + 1) ≤ 8 * length out.old) × (at.at < 2 ^ 31) }
-    ensures { (bits_of out.new ≡ put_at (bits_of out.old) at.at (row_bits shape.n (drop base store.now))) × (result.at ≡ at.at + (shape.n + 1)) }
+// Puts the row whose nine words stand first at the cursor.
+fn put_row(at: Cursor, out: &mut [u8], row: &[u64], shape: Shape) -> Cursor
+    requires { (9 ≤ length row.now) × (at.at + (shape.n + 1) ≤ 8 * length out.old) × (at.at < 2 ^ 31) }
+    ensures { (bits_of out.new ≡ put_at (bits_of out.old) at.at (row_bits shape.n row.now)) × (result.at ≡ at.at + (shape.n + 1)) }
 {
     let k = shape.n / 64;
     let left = shape.n % 64;
     let mut c = at;
     for w in 0..k {
-        c = c.put(out, store[base + w], 64);
+        c = c.put(out, row[w], 64);
     }
     // With n = 512 the word at k = 8 is the parity word: left is 0 then, and no bit of it is taken as a coefficient.
-    let v = bits::last_bits(store[base + k], left, store[base + 8]);
+    let v = bits::last_bits(row[k], left, row[8]);
     c.put(out, v, left + 1)
 }
 
@@ -135,7 +136,7 @@ fn put_rows(at: Cursor, out: &mut [u8], store: &[u64], shape: Shape) -> Cursor
 {
     let mut c = at;
     for r in 0..shape.m {
-        c = put_row(c, out, store, 9 * r, shape);
+        c = put_row(c, out, &store[9 * r..], shape);
     }
     c
 }
@@ -153,20 +154,20 @@ fn emit(shape: Shape, store: &[u64], out: &mut [u8])
     end.put(out, 0, size * 8 - end.at);
 }
 
-// Whether the row that stands in the store from base on has no bit past the last variable and a parity of 0 or 1.
-fn clean_row(store: &[u64], base: usize, shape: Shape) -> bool
-    requires { base + 9 ≤ length store.now }
-    ensures { result ≡ clean_row shape.n (drop base store.now) }
+// Whether the row whose nine words stand first has no bit past the last variable and a parity of 0 or 1.
+fn clean_row(row: &[u64], shape: Shape) -> bool
+    requires { 9 ≤ length row.now }
+    ensures { result ≡ clean_row shape.n row.now }
 {
     let mut left = shape.n % 64;
     for w in shape.n / 64..8 {
-        let past = bits::raised(store[base + w], left);
+        let past = bits::raised(row[w], left);
         if 0 < past {
             return false;
         }
         left = 0;
     }
-    store[base + 8] < 2
+    row[8] < 2
 }
 
 // Whether the rows of the store are clean.
@@ -175,7 +176,7 @@ fn clean_rows(store: &[u64], shape: Shape) -> bool
     ensures { result ≡ clean shape.n shape.m store.now }
 {
     for r in 0..shape.m {
-        if !clean_row(store, 9 * r, shape) {
+        if !clean_row(&store[9 * r..], shape) {
             return false;
         }
     }
