@@ -1,4 +1,5 @@
 // Bits of bytes and of words of 64 bits, the top bit first: pieces of one byte, and windows of 64 bits that begin inside a byte.
+// Document 01 names shifts and masks for this place, so a word is not made by `from_be_bytes`.
 #![tactic(auto)]
 
 ghost use Rattle.std.specs.Prelude.{◌≡◌, ◌+◌, ◌-◌, ◌*◌, ◌/◌, ◌%◌, ◌^◌, ◌≤◌, ◌<◌, min, length, take, drop};

@@ -1,4 +1,5 @@
-// The C interface: the calls with numbers and slices, as include/parity.h declares them. Each answer is a struct of numbers; a field that the number gives no meaning is 0.
+// The C interface: the calls with numbers and slices, as include/parity.h declares them. Each answer is a struct of numbers, since C reads
+// it; a field that the number gives no meaning is 0.
 #![tactic(auto)]
 
 ghost use Rattle.parity.specs.Promises.{BackPromise};

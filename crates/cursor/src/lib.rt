@@ -31,6 +31,7 @@ impl Cursor {
         let at = self.at;
         let mut value: u64 = 0;
         let mut done: usize = 0;
+        // The pieces are of varying size, so no range counts them.
         while done < count {
             let i = at + done;
             let q = i / 8;
@@ -72,6 +73,7 @@ impl Cursor {
     {
         let at = self.at;
         let mut done: usize = 0;
+        // As in `field_bytes`.
         while done < count {
             let i = at + done;
             let q = i / 8;

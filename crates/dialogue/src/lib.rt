@@ -1,5 +1,6 @@
 // A session step by step: the sheet at the start of the input, and each command after it. A step is one call and its line, which stands
-// at the start of the line buffer. Nothing is read or written here.
+// at the start of the line buffer. Nothing is read or written here. The line buffer is a slice of `room` bytes or more: an array of so
+// many would ask more of those who lend it.
 #![tactic(auto)]
 
 ghost use Rattle.std.specs.Prelude.{◌≡◌, ◌≤◌, length};
@@ -11,7 +12,8 @@ use format::Refusal;
 use judge::Header;
 use parity::{Assuming, Explained, Opening, Reply};
 
-// The header after a step, where its line ends in the line buffer, and whether the session goes on.
+// The header after a step, where its line ends in the line buffer, and whether the session goes on. The header is promised also where it
+// does not, so it is no Option.
 #[derive(Clone, Copy)]
 pub struct Step {
     pub header: Header,

@@ -102,7 +102,8 @@ fn take(work: &mut [u64], k: usize, d: usize, code: usize) -> bool
     true
 }
 
-// What a literal that is offered comes to: its variable has that value; it has the other; the literal is taken; it cannot be.
+// What a literal that is offered comes to: its variable has that value; it has the other; the literal is taken; it cannot be. Four outcomes,
+// none of which holds what the others lack.
 #[derive(Clone, Copy, Debug, PartialEq, Eq)]
 pub enum Offer {
     Held,

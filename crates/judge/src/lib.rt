@@ -7,7 +7,7 @@ ghost use Rattle.judge.specs.Checks.{unfit, assume_checks, back_checks, explain_
 
 use format::Refusal;
 
-// A state is a header and a working buffer. It is open exactly if `open` is 1.
+// A state is a header and a working buffer. It is open exactly if `open` is 1. C programs hold it, and may put any number there.
 #[repr(C)]
 #[derive(Clone, Copy, Debug, Default, PartialEq, Eq)]
 pub struct Header {

@@ -1,5 +1,6 @@
 // The answer lines of the session program (document 01, "The session program"), each written at the start of a buffer that
-// the caller lends. The answer is where its text ends; past that the buffer keeps what it had.
+// the caller lends. The answer is where its text ends; past that the buffer keeps what it had. Every byte is promised, which `Display`
+// does not do.
 //
 // A number takes at most 21 bytes with its space, and the rest of a line less than 64: 16,384 bytes hold any line.
 #![tactic(auto)]

@@ -1,4 +1,4 @@
-// The lists of the answers: each scan writes what a test picks, ascending.
+// The lists of the answers: each scan writes what a test picks, ascending. `out` may be longer than n: what it has past the list stays.
 #![tactic(auto)]
 
 ghost use Rattle.std.specs.Prelude.{◌≡◌, ℕ, not, ◌∷◌, ◌+◌, ◌-◌, ◌*◌, ◌<◌, ◌≤◌, length};

@@ -1,4 +1,6 @@
 // The working buffer, and the operations that read and write its rows and its record. specs/Layout.antt has the table of its words.
+// It is a slice of `size` words or more, here and in the crates above: an array of so many would ask more of those who lend it.
+// A row is a number below `max_rows`: loops count rows, and a type of a row would be made anew at each turn.
 #![tactic(auto)]
 
 ghost use Rattle.std.specs.Prelude.{◌≡◌, ◌+◌, ◌*◌, ◌-◌, ◌<◌, ◌≤◌, min, length, get_or};
