@@ -5,12 +5,12 @@
 ghost use Rattle.std.specs.Prelude.{◌≡◌, ◌+◌, ◌-◌, ◌*◌, ◌/◌, ◌%◌, ◌^◌, ◌≤◌, ◌<◌, min, length, take, drop};
 ghost use Rattle.format.specs.Bits.{bits_of, bits_n, value_of, put_at};
 
-// v, k bits up. (A machine shifts by less than 64 only.)
+// v, k bits up.
 pub fn raised(v: u64, k: usize) -> u64
     requires { k ≤ 64 }
     ensures { result ≡ v * 2 ^ k % 2 ^ 64 }
 {
-    if k < 64 { v << k } else { 0 }
+    v.unbounded_shl(k as u32)
 }
 
 // v, k bits down.
@@ -18,7 +18,7 @@ pub fn lowered(v: u64, k: usize) -> u64
     requires { k ≤ 64 }
     ensures { result ≡ v / 2 ^ k }
 {
-    if k < 64 { v >> k } else { 0 }
+    v.unbounded_shr(k as u32)
 }
 
 // The first count bits of the word v, and the lowest bit of p.
@@ -102,8 +102,7 @@ fn headed(y: u8, off: usize, v: u64) -> u64
     ensures { result ≡ y / 2 ^ (8 - off) * 2 ^ (64 - off) + v / 2 ^ off }
 {
     let first = u64::from(y) >> (8 - off);
-    // With off = 0 the shift would be by 64, which a machine does not do. It is by 64 % 64, which is 0, and first is 0 then.
-    (first << ((64 - off) % 64)) | (v >> off)
+    raised(first, 64 - off) | (v >> off)
 }
 
 // Puts the 64 bits of v from bit off of byte q on.
