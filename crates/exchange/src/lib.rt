@@ -4,11 +4,10 @@
 ghost use Rattle.std.specs.Prelude.{true, ◌≡◌, ◌+◌, ◌*◌, ◌-◌, ◌<◌, ◌≤◌, length};
 ghost use Rattle.words.specs.Words.{bit_at};
 ghost use Rattle.tableau.specs.Layout.{max_vars, max_rows, max_taken, row_at, size};
-ghost use Rattle.tableau.specs.Buffer.{Span};
 ghost use Rattle.exchange.specs.Steps.{Partner, Found, pointed, RowTurned, Turned, Took, Stepped};
 
-use settle::{follow, put, settle_row};
-use tableau::{COEF_WORDS, KNOWN, LAST, ROW, TRUTH, add_row, column, home, set_entry, set_home};
+use settle::{follow, for_rows_with, put, settle_row};
+use tableau::{COEF_WORDS, KNOWN, LAST, ROW, TRUTH, add_row, home, set_entry, set_home};
 use words::{Ones, Variable, bit, without};
 
 // The lowest variable of row r that has no value and is not v. On a state of the module, where v is basic in row r, no other variable of the row is basic.
@@ -72,27 +71,13 @@ fn turn_row(work: &mut [u64], p: usize, u: Variable, r: usize)
     settle_row(work, r);
 }
 
-// Each row from q to below e, 64 at most, that has the variable u is turned; row p, which has it, too if it is one of them.
-fn turn_block(work: &mut [u64], q: usize, e: usize, p: usize, u: Variable)
-    requires { (size ≤ length work.old) × (q < e) × (e ≤ q + 64) × (q + 64 ≤ max_rows) × (p < max_rows) × (bit_at work.old (row_at p) (u.number - 1) ≡ true) }
-    ensures { Span (RowTurned p u.number) q (e - q) work.old work.new }
-{
-    for i in Ones(column(work, q, e, u)) {
-        turn_row(work, p, u, q + i);
-    }
-}
-
 // Variable v, basic in row p, gets the value b, and u, which row p has, becomes basic there: an exchange and the settling in one pass, since v is then in the rows that change and in no other.
 fn turn(work: &mut [u64], k: usize, p: usize, u: Variable, v: Variable, b: bool)
     requires { (size ≤ length work.old) × (k ≤ max_rows) × (p < k) × (bit_at work.old (row_at p) (u.number - 1) ≡ true) }
     ensures { Turned k p u.number (v.number - 1) b work.old work.new }
 {
     put(work, v, b);
-    for block in 0..k.div_ceil(64) {
-        let q = 64 * block;
-        let e = (q + 64).min(k);
-        turn_block(work, q, e, p, u);
-    }
+    for_rows_with(work, k, u, |work, r| turn_row(work, p, u, r));
 }
 
 // A literal whose variable has no value is taken at depth d, if it can be: whether it was. If not, nothing has changed.

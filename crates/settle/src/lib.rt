@@ -3,8 +3,8 @@
 
 ghost use Rattle.std.specs.Prelude.{◌≡◌, ◌+◌, ◌*◌, ◌-◌, ◌<◌, ◌≤◌, length};
 ghost use Rattle.tableau.specs.Layout.{coef_words, max_rows, max_taken, known_at, size};
-ghost use Rattle.tableau.specs.Buffer.{Run, Chain, Span};
-ghost use Rattle.settle.specs.Values.{Overlay, Sole, Put, value_at, Ready, RowSettled, EntrySet, Restarted, RowFollowed, Followed};
+ghost use Rattle.tableau.specs.Buffer.{Run, Chain};
+ghost use Rattle.settle.specs.Values.{Overlay, Sole, Put, value_at, Ready, RowSettled, EntrySet, Restarted, Followed, RowTaken, StepCallable, StepApart};
 
 use tableau::{CODES, COEF_WORDS, KNOWN, LAST, ROW, TRUTH, column, entry, load, words_at};
 use words::{Ones, Variable, odd, own, without};
@@ -155,13 +155,19 @@ pub fn restart(work: &mut [u64], k: usize, d: usize)
     settle(work, k);
 }
 
-// Each row from q to below e, 64 at most, that has the variable v is settled.
-fn follow_block(work: &mut [u64], q: usize, e: usize, v: Variable)
-    requires { (size ≤ length work.old) × (q < e) × (e ≤ q + 64) × (q + 64 ≤ max_rows) }
-    ensures { Span (RowFollowed (v.number - 1)) q (e - q) work.old work.new }
+// `step` is taken for each row below k that has the variable v, in order.
+pub fn for_rows_with<F: Fn(&mut [u64], usize)>(work: &mut [u64], k: usize, v: Variable, step: F)
+    requires small { (size ≤ length work.old) × (k ≤ max_rows) }
+    requires callable { StepCallable (F.pre step) (F.post step) (v.number - 1) k work.old }
+    requires apart { StepApart (F.post step) k }
+    ensures { Chain (RowTaken (F.post step) (v.number - 1)) k work.old work.new }
 {
-    for i in Ones(column(work, q, e, v)) {
-        settle_row(work, q + i);
+    for block in 0..k.div_ceil(64) {
+        let q = 64 * block;
+        let e = (q + 64).min(k);
+        for i in Ones(column(work, q, e, v)) {
+            step(work, q + i);
+        }
     }
 }
 
@@ -171,9 +177,5 @@ pub fn follow(work: &mut [u64], k: usize, v: Variable, b: bool)
     ensures { Followed k (v.number - 1) b work.old work.new }
 {
     put(work, v, b);
-    for block in 0..k.div_ceil(64) {
-        let q = 64 * block;
-        let e = (q + 64).min(k);
-        follow_block(work, q, e, v);
-    }
+    for_rows_with(work, k, v, |work, r| settle_row(work, r));
 }
