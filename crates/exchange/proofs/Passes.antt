@@ -51,8 +51,12 @@ module _ (p u : ℕ) where
     pivot_stays (suc k) z w c = bit_same c.0 w (row_at p) (row_at p) j (pivot_word k c.0 w c.3) ∙ pivot_stays k z c.0 c.2
 
   -- a row that has not the variable, as row p has, is turned as it is
-  pub turned_idle : p < max_rows → u - 1 < max_vars → (k : ℕ) (z w : List ℕ) → bit_at z (row_at p) (u - 1) ≡ true → Chain (RowTurned p u) k z w → bit_at w (row_at k) (u - 1) ≡ false → RowTurned p u k w w
-  turned_idle lp lu k z w has c f = idle (λ h. true≢false (sym (pivot_stays lp (u - 1) lu k z w c ∙ has) ∙ ap (λ (y : ℕ). bit_at w (row_at y) (u - 1)) (sym h) ∙ f)) f refl
+  pub turned_idle : p < max_rows → u - 1 < max_vars → (r : ℕ) (z w : List ℕ)
+      → bit_at z (row_at p) (u - 1) ≡ true → Chain (RowTurned p u) r z w → bit_at w (row_at r) (u - 1) ≡ false → RowTurned p u r w w
+  turned_idle lp lu r z w has c f = idle (λ h. true≢false (sym still ∙ ap (λ (y : ℕ). bit_at w (row_at y) (u - 1)) (sym h) ∙ f)) f refl
+    where
+      still : bit_at w (row_at p) (u - 1) ≡ true
+      still = pivot_stays lp (u - 1) lu r z w c ∙ has
 
 -- ---- the variable that was chosen
 lacks_has : (ws : List ℕ) (r i : ℕ) → lacks ws r i ≡ true → bit_at ws (row_at r) i ≡ true

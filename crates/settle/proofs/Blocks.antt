@@ -1,7 +1,8 @@
 -- ROWS TAKEN 64 AT A TIME: a word says which of them have a variable, and a loop goes over its ones.
 --   settled_rows                            a row that is settled keeps all rows
 --   chain_taken                             a pass is a chain of other steps, if each row that was passed over or taken is one, after those before it
---   Block post p q e x zs ws w rest         the loop over a block that the pass from zs reached at ws: the rows up to the last one taken have been stepped over, the others are as they were
+--   Block post p q e x zs ws w rest         the loop over a block, which the pass from zs reached at ws: the rows up to the last one taken
+--                                           have been stepped over, the others are as they were
 --   block-init, block-end                   before it, and when no one is left
 --   Next, block-next                        the row of the top one has the variable and those before it have been stepped over; a step for it goes on
 -- Assumes nothing.
@@ -97,7 +98,7 @@ module _ (post : Leaves) (p k q e x : ℕ) (zs ws w : List ℕ) (rest : ℕ) (lp
               upto = omega (arith, row);
               ones = left_next x b.seen rest i after b.ones t;
               going = rw s (w, b.len, before, taken y v g refl has c);
-              same = λ j f h. keeps (q + i) y v (omega (arith, row)) c j (omega arith) h ∙ ap (λ (z : List ℕ). get_or z j 0) g ∙ b.same j (omega (arith, seen)) h;
+              same = λ j f h. keeps (q + i) y v (omega (arith, row)) c j (omega arith) h ∙ ap (λ z. get_or z j 0) g ∙ b.same j (omega (arith, seen)) h;
               len = l ∙ b.len;
             };
       }

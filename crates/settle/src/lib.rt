@@ -4,7 +4,8 @@
 ghost use Rattle.std.specs.Prelude.{◌≡◌, ◌+◌, ◌*◌, ◌-◌, ◌<◌, ◌≤◌, length};
 ghost use Rattle.tableau.specs.Layout.{coef_words, max_rows, max_taken, known_at, size};
 ghost use Rattle.tableau.specs.Buffer.{Run, Chain};
-ghost use Rattle.settle.specs.Values.{Overlay, Sole, Put, value_at, Ready, RowSettled, EntrySet, Restarted, RowFollowed, Followed, RowTaken, StepCallable, StepApart};
+ghost use Rattle.settle.specs.Values.{Overlay, Sole, Put, value_at, Ready, RowSettled, EntrySet, Restarted, Followed};
+ghost use Rattle.settle.specs.Values.{RowTaken, StepCallable, StepApart};
 
 use tableau::{CODES, COEF_WORDS, KNOWN, LAST, ROW, TRUTH, column, entry, load, words_at};
 use words::{Ones, Variable, odd, own, without};

@@ -5,10 +5,13 @@ use Rattle.settle.proofs.for_rows_with.Goals.{In-Some}
 
 -- the turn of the loop over a block
 turn : (g : _) (c : In-Some g)
-    → Next (goal.F-post g c.args.step) (c.args.v.number - 1) (64 * c.loop-block.block) c.min-e.result c.into_iter-i-iterator.result.0 c.args.work.now c.loop-block.work c.loop-i.work c.in-Some.i c.next.new.self.0
+    → let a = c.args in
+    let l = c.loop-block in
+    Next (goal.F-post g a.step) (a.v.number - 1) (64 * l.block) c.min-e.result c.into_iter-i-iterator.result.0 a.work.now l.work c.loop-i.work c.in-Some.i c.next.new.self.0
 turn g c =
-    block-next _ _ c.args.k _ _ _ _ _ _ _ (omega arith) (omega arith) (omega arith) (omega arith) c.requires.apart (rw c.into_iter-i-iterator.ensures.into_iter_gives c.column.ensures) c.loop-i.invariant
-    _ _ c.in-Some.ensures.steps
+    let i = c.into_iter-i-iterator in
+    block-next _ _ c.args.k _ _ _ _ _ _ _ (omega arith) (omega arith) (omega arith) (omega arith) c.requires.apart (rw i.ensures.into_iter_gives c.column.ensures)
+    c.loop-i.invariant _ _ c.in-Some.ensures.steps
 
 pub loop-i-init : goal.loop-i-init
 loop-i-init g c =
@@ -29,5 +32,6 @@ pub loop-block-preserved : goal.loop-block-preserved
 loop-block-preserved g c =
     let l = c.loop-block in
     let n : c.min-e.result ≡ min (64 * (l.block + 1)) c.args.k = omega arith in
-    rw n at (block-end _ _ c.args.k _ _ _ _ _ _ _ (omega arith) (omega arith) (omega arith) (omega arith) c.requires.apart (rw c.into_iter-i-iterator.ensures.into_iter_gives c.column.ensures) c.loop-i.invariant
-    c.in-None.ensures.steps.0)
+    let i = c.into_iter-i-iterator in
+    rw n at (block-end _ _ c.args.k _ _ _ _ _ _ _ (omega arith) (omega arith) (omega arith) (omega arith) c.requires.apart (rw i.ensures.into_iter_gives c.column.ensures)
+    c.loop-i.invariant c.in-None.ensures.steps.0)
