@@ -2,13 +2,14 @@
 #![tactic(auto)]
 
 ghost use Rattle.std.specs.Prelude.{true, ◌≡◌, ◌+◌, ◌*◌, ◌-◌, ◌<◌, ◌≤◌, length};
+ghost use Rattle.gf2.specs.Answers.{code};
 ghost use Rattle.words.specs.Words.{bit_at};
 ghost use Rattle.tableau.specs.Layout.{max_vars, max_rows, max_taken, row_at, size};
 ghost use Rattle.exchange.specs.Steps.{Partner, Found, pointed, RowTurned, Turned, Took, Stepped};
 
 use settle::{follow, for_rows_with, put, settle_row};
 use tableau::{COEF_WORDS, KNOWN, LAST, ROW, TRUTH, add_row, home, set_entry, set_home};
-use words::{Ones, Variable, bit, without};
+use words::{Literal, Ones, Variable, bit, without};
 
 // The lowest variable of row r that has no value and is not v. On a state of the module, where v is basic in row r, no other variable of the row is basic.
 fn partner(work: &[u64], r: usize, v: Variable) -> Option<Variable>
@@ -71,34 +72,33 @@ fn turn_row(work: &mut [u64], p: usize, u: Variable, r: usize)
     settle_row(work, r);
 }
 
-// Variable v, basic in row p, gets the value b, and u, which row p has, becomes basic there: an exchange and the settling in one pass, since v is then in the rows that change and in no other.
-fn turn(work: &mut [u64], k: usize, p: usize, u: Variable, v: Variable, b: bool)
+// The variable of l, basic in row p, gets its value, and u, which row p has, becomes basic there: an exchange and the settling in one pass,
+// since the variable of l is then in the rows that change and in no other.
+fn turn(work: &mut [u64], k: usize, p: usize, u: Variable, l: Literal)
     requires { (size ≤ length work.old) × (k ≤ max_rows) × (p < k) × (bit_at work.old (row_at p) (u.number - 1) ≡ true) }
-    ensures { Turned k p u.number (v.number - 1) b work.old work.new }
+    ensures { Turned k p u.number (l.variable.number - 1) l.value work.old work.new }
 {
-    put(work, v, b);
+    put(work, l);
     for_rows_with(work, k, u, |work, r| turn_row(work, p, u, r));
 }
 
 // A literal whose variable has no value is taken at depth d, if it can be: whether it was. If not, nothing has changed.
-fn take(work: &mut [u64], k: usize, d: usize, code: usize) -> bool
-    requires { (size ≤ length work.old) × (k ≤ max_rows) × (d < max_taken) × (2 ≤ code) × (code < 2 * max_vars + 2) }
-    ensures { Took k d code work.old work.new result }
+fn take(work: &mut [u64], k: usize, d: usize, l: Literal) -> bool
+    requires { (size ≤ length work.old) × (k ≤ max_rows) × (d < max_taken) }
+    ensures { Took k d (code l.variable.number l.value) work.old work.new result }
 {
-    let v = Variable { number: code / 2 };
-    let b = code % 2 == 0;
-    let Some(p) = find(work, k, v) else {
-        set_entry(work, d, code as u64);
-        follow(work, k, v, b);
+    let Some(p) = find(work, k, l.variable) else {
+        set_entry(work, d, l.code());
+        follow(work, k, l);
         return true;
     };
-    let Some(u) = partner(work, p, v) else {
+    let Some(u) = partner(work, p, l.variable) else {
         return false;
     };
     // u becomes basic in row p: that is its home.
     set_home(work, u, p);
-    set_entry(work, d, code as u64);
-    turn(work, k, p, u, v, b);
+    set_entry(work, d, l.code());
+    turn(work, k, p, u, l);
     true
 }
 
@@ -117,9 +117,9 @@ pub fn step(work: &mut [u64], k: usize, n: usize, d: usize, code: usize) -> Offe
     requires { (size ≤ length work.old) × (k ≤ max_rows) × (n ≤ max_taken) × (2 ≤ code) × (code < 2 * max_vars + 2) }
     ensures { Stepped k n d code work.old work.new result }
 {
-    let v = Variable { number: code / 2 };
-    if bit(work, KNOWN, v) {
-        if bit(work, TRUTH, v) == (code % 2 == 0) {
+    let l = Literal::of(code);
+    if bit(work, KNOWN, l.variable) {
+        if bit(work, TRUTH, l.variable) == l.value {
             return Offer::Held;
         }
         return Offer::Conflict;
@@ -127,7 +127,7 @@ pub fn step(work: &mut [u64], k: usize, n: usize, d: usize, code: usize) -> Offe
     if d >= n {
         return Offer::Stuck;
     }
-    if take(work, k, d, code) {
+    if take(work, k, d, l) {
         Offer::Taken
     } else {
         Offer::Stuck

@@ -10,18 +10,7 @@ ghost use Rattle.tableau.specs.View.{vals};
 ghost use Rattle.lists.specs.Listing.{numbers, is_new, is_other, FirstOnes, items, ListPut, RoomFor, WordsPut};
 
 use tableau::{FROM, KNOWN, ROW, TRUTH};
-use words::{Ones, Variable, bit, own, without};
-
-// The code of the literal that gives v the value b.
-fn literal(v: Variable, b: bool) -> u64
-    ensures { result ≡ code v.number b }
-{
-    if b {
-        2 * (v.number as u64)
-    } else {
-        2 * (v.number as u64) + 1
-    }
-}
+use words::{Literal, Ones, Variable, bit, own, without};
 
 // The ones of x among its first k digits, the top one first.
 fn first_ones(x: u64, k: usize) -> u64
@@ -112,7 +101,8 @@ pub fn list_clause(work: &[u64], r: usize, v: Variable, n: usize, out: &mut [u64
     ensures { ListPut n 0 (code v.number (bit_at work.now truth_at (v.number - 1))
         ∷ scanned n (is_other work.now r v.number) (λ u. not (vals work.now truth_at u))) out.old out.new result }
 {
-    out[0] = literal(v, bit(work, TRUTH, v));
+    let value = bit(work, TRUTH, v);
+    out[0] = Literal { variable: v, value }.code();
     list_others(work, r, v, n, out)
 }
 

@@ -13,7 +13,7 @@ use format::Refusal;
 use judge::Header;
 use opening::Contradiction;
 use tableau::{COEF_WORDS, KNOWN, SIZE};
-use words::{Variable, bit};
+use words::{Literal, Variable, bit};
 
 // What open answers: unsatisfiable, with so many row numbers listed; open, with so many implied literals listed.
 #[derive(Clone, Copy, Debug, PartialEq, Eq)]
@@ -143,13 +143,13 @@ pub fn assume(h: Header, work: &mut [u64], literals: &mut [u64], code: usize) ->
     if let Err(r) = judge::judge_assume(h, work.len(), literals.len(), code) {
         return Reply::refused(h, r);
     }
+    let v = Literal::of(code).variable;
     // Which variables have a value before.
     let old: [u64; COEF_WORDS] = tableau::words_at(work, KNOWN);
     match exchange::step(&mut work[..SIZE], h.kept, h.n, h.depth, code) {
         Offer::Held => Reply::done(h, Assuming::Held),
-        Offer::Conflict => Reply::done(h, Assuming::Conflict(code / 2)),
+        Offer::Conflict => Reply::done(h, Assuming::Conflict(v.number)),
         Offer::Taken => {
-            let v = Variable { number: code / 2 };
             let count = lists::list_new(work, &old, v, h.n, literals);
             let depth = h.depth + 1;
             Reply::done(Header { depth, ..h }, Assuming::Taken(count))

@@ -8,16 +8,16 @@ ghost use Rattle.settle.specs.Values.{Overlay, Sole, Put, value_at, Ready, RowSe
 ghost use Rattle.settle.specs.Values.{RowTaken, StepCallable, StepApart};
 
 use tableau::{CODES, COEF_WORDS, KNOWN, LAST, ROW, TRUTH, column, entry, load, words_at};
-use words::{Ones, Variable, odd, own, without};
+use words::{Literal, Ones, Variable, odd, own, without};
 
-// Variable v gets the value b.
-pub fn put(work: &mut [u64], v: Variable, b: bool)
+// The variable of l gets its value.
+pub fn put(work: &mut [u64], l: Literal)
     requires { size ≤ length work.old }
-    ensures { Put (v.number - 1) b work.old work.new }
+    ensures { Put (l.variable.number - 1) l.value work.old work.new }
 {
-    let (w, _) = v.place();
-    let mask = own(v, w);
-    let bit = if b { mask } else { 0 };
+    let (w, _) = l.variable.place();
+    let mask = own(l.variable, w);
+    let bit = if l.value { mask } else { 0 };
     work[KNOWN + w] |= mask;
     work[TRUTH + w] |= bit;
 }
@@ -97,9 +97,9 @@ pub fn settle_row(work: &mut [u64], r: usize)
     requires { (size ≤ length work.old) × (r < max_rows) }
     ensures { RowSettled r work.old work.new }
 {
-    if let Some(v) = ready(work, r) {
-        let b = value(work, r);
-        put(work, v, b);
+    if let Some(variable) = ready(work, r) {
+        let value = value(work, r);
+        put(work, Literal { variable, value });
     }
 }
 
@@ -129,10 +129,7 @@ fn put_entry(work: &mut [u64], j: usize)
     let code = entry(work, j);
     if code >= 2 {
         if code < CODES {
-            let v = Variable {
-                number: (code / 2) as usize,
-            };
-            put(work, v, code % 2 == 0);
+            put(work, Literal::of(code as usize));
         }
     }
 }
@@ -173,11 +170,11 @@ pub fn for_rows_with<F: Fn(&mut [u64], usize)>(work: &mut [u64], k: usize, v: Va
     }
 }
 
-// Variable v gets the value b, and each row below k that has it is settled.
-pub fn follow(work: &mut [u64], k: usize, v: Variable, b: bool)
+// The variable of l gets its value, and each row below k that has it is settled.
+pub fn follow(work: &mut [u64], k: usize, l: Literal)
     requires { (size ≤ length work.old) × (k ≤ max_rows) }
-    ensures { Followed k (v.number - 1) b work.old work.new }
+    ensures { Followed k (l.variable.number - 1) l.value work.old work.new }
 {
-    put(work, v, b);
-    for_rows_with(work, k, v, |work, r| settle_row(work, r));
+    put(work, l);
+    for_rows_with(work, k, l.variable, |work, r| settle_row(work, r));
 }

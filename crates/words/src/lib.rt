@@ -7,8 +7,10 @@ ghost use Rattle.gf2.specs.Field.{xsum};
 ghost use Rattle.words.specs.Words.{bit_at, xor_words, own_word, Lowest};
 ghost use Rattle.words.specs.Ones.{TakesTop, left};
 
+pub use literal::Literal;
 pub use variable::Variable;
 
+mod literal;
 mod variable;
 
 // The sum of two rows, or of their provenance.

@@ -22,11 +22,11 @@ list_new-count-requires c =
     let r = (replaced_worked a.work.now c.step.new.work j.1 c.step.auto.work).long in
     (omega (arith, r, j.1), search rules, j.0.vars, j.2)
 
-pub invariant_of-v : goal.invariant_of-v
-invariant_of-v c =
+pub of-requires : goal.of-requires
+of-requires c =
     let a = c.args in
     let j = assume_judged a.h (length a.work.now) (length a.literals.now) a.code (sym c.in_default.ensures) in
-    record { first = omega (arith, j.3); last = omega (arith, j.4, j.0.vars) }
+    (j.3, omega (arith, j.4, j.0.vars))
 
 pub returns-in-Held : goal.returns-in-Held
 returns-in-Held c =
@@ -37,7 +37,7 @@ pub returns-in-Conflict : goal.returns-in-Conflict
 returns-in-Conflict c =
     let a = c.args in
     let done = c.done-in-Conflict.ensures in
-    rw (done.0, done.1) (promise_conflict a.h a.work.now a.literals.now a.code (sym c.in_default.ensures) c.step.new.work c.in-Conflict.ensures)
+    rw (done.0, done.1, c.of.ensures.0) (promise_conflict a.h a.work.now a.literals.now a.code (sym c.in_default.ensures) c.step.new.work c.in-Conflict.ensures)
 
 pub returns-in-Taken : goal.returns-in-Taken
 returns-in-Taken c =
@@ -46,7 +46,7 @@ returns-in-Taken c =
     let list = c.list_new-count in
     rw (done.0, done.1)
     (promise_taken a.h a.work.now a.literals.now a.code (sym c.in_default.ensures) c.step.new.work c.in-Taken.ensures
-    c.words_at-old.result c.words_at-old.ensures c.step.auto.work list.new.out list.result list.ensures)
+    c.words_at-old.result c.words_at-old.ensures c.step.auto.work list.new.out list.result (rw c.of.ensures.0 at list.ensures))
 
 pub returns-in-Stuck : goal.returns-in-Stuck
 returns-in-Stuck c =

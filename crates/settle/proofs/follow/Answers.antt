@@ -5,7 +5,7 @@ use Rattle.settle.proofs.follow.Goals as goal
 
 pub returns : goal.returns
 returns c =
-    let p = c.args.v.number - 1 in
+    let p = c.args.l.variable.number - 1 in
     record {
       begun = c.put.new.work;
       given = c.put.ensures;
