@@ -112,7 +112,8 @@ pub enum Offer {
     Stuck,
 }
 
-// A literal is offered at depth d of n. The buffer is as it was unless the literal is taken. On a state of the module every variable has a value where n literals are taken, and no literal is stuck.
+// A literal is offered at depth d of n. The buffer is as it was unless the literal is taken. On a state of the module every variable has a
+// value where n literals are taken, and no literal is stuck.
 pub fn step(work: &mut [u64], k: usize, n: usize, d: usize, code: usize) -> Offer
     requires { (size ≤ length work.old) × (k ≤ max_rows) × (n ≤ max_taken) × (2 ≤ code) × (code < 2 * max_vars + 2) }
     ensures { Stepped k n d code work.old work.new result }
