@@ -9,7 +9,7 @@ pub use shape::Shape;
 
 mod shape;
 
-// How many bits stand before it.
+// How many bits stand before it. That they are fewer than 2 ^ 32 is asked where it is used, so that nothing is to be shown where it moves.
 #[derive(Clone, Copy)]
 pub struct Cursor {
     pub at: usize,

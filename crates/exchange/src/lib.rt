@@ -119,6 +119,7 @@ pub fn step(work: &mut [u64], k: usize, n: usize, d: usize, code: usize) -> Offe
     ensures { Stepped k n d code work.old work.new result }
 {
     let l = Literal::of(code);
+    // Whether the variable has a value and which are two masks of the layout, and only this place asks both.
     if bit(work, KNOWN, l.variable) {
         if bit(work, TRUTH, l.variable) == l.value {
             return Offer::Held;

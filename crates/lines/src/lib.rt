@@ -53,7 +53,7 @@ impl Line<'_> {
     }
 }
 
-// A whole line of a word and a number.
+// A whole line of a word and a number: conflict, back and refused are such lines, and each promises its own text.
 fn named(out: &mut [u8], word: &[u8], n: u64) -> usize
     requires { length word.now + 22 ≤ length out.old }
     ensures { Put out.old 0 (line word.now (dec n ∷ [])) out.new result }

@@ -75,7 +75,7 @@ fn clear_row(work: &mut [u64], k: usize, v: Variable, r: usize)
     }
 }
 
-// Whether row r or the next one has the variable v.
+// Whether row r or the next one has the variable v, by one test: here it does not matter which (`tableau::two`, which reads both digits, serves the columns).
 fn in_two(work: &[u64], v: Variable, r: usize) -> bool
     requires { (size ≤ length work.now) × (r + 2 ≤ max_rows) }
     ensures { result ≡ (bit_at work.now (row_at r) (v.number - 1) || bit_at work.now (row_at (r + 1)) (v.number - 1)) }

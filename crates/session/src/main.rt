@@ -6,7 +6,7 @@ ghost use Rattle.dialogue.specs.Steps.{room};
 
 use judge::Header;
 
-// The descriptors of standard input and output.
+// The descriptors of standard input and output. The library's reader and writer take handles, and no crate here has one.
 const STDIN_FILENO: i32 = 0;
 
 const STDOUT_FILENO: i32 = 1;
