@@ -13,7 +13,7 @@ use judge::Header;
 use parity::{Assuming, Explained, Opening, Reply};
 
 // The header after a step, where its line ends in the line buffer, and whether the session goes on. The header is promised also where it
-// does not, so it is no Option.
+// does not, so the step is no Option.
 #[derive(Clone, Copy)]
 pub struct Step {
     pub header: Header,

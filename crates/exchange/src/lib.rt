@@ -114,12 +114,11 @@ pub enum Offer {
 
 // A literal is offered at depth d of n. The buffer is as it was unless the literal is taken. On a state of the module every variable has a
 // value where n literals are taken, and no literal is stuck.
-pub fn step(work: &mut [u64], k: usize, n: usize, d: usize, code: usize) -> Offer
-    requires { (size ≤ length work.old) × (k ≤ max_rows) × (n ≤ max_taken) × (2 ≤ code) × (code < 2 * max_vars + 2) }
-    ensures { Stepped k n d code work.old work.new result }
+pub fn step(work: &mut [u64], k: usize, n: usize, d: usize, l: Literal) -> Offer
+    requires { (size ≤ length work.old) × (k ≤ max_rows) × (n ≤ max_taken) }
+    ensures { Stepped k n d (code l.variable.number l.value) work.old work.new result }
 {
-    let l = Literal::of(code);
-    // Whether the variable has a value and which are two masks of the layout, and only this place asks both.
+    // Whether the variable has a value and which are two masks of the layout: only this place asks both of one variable.
     if bit(work, KNOWN, l.variable) {
         if bit(work, TRUTH, l.variable) == l.value {
             return Offer::Held;

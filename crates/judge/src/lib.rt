@@ -25,7 +25,7 @@ fn unfit(h: Header) -> bool
     h.open != 1 || 512 < h.n || 256 < h.m || h.n.min(h.m) < h.kept || h.n < h.depth
 }
 
-// Lines 11 and 6, by which each of the calls is judged first.
+// Lines 11 and 6, by which assume, back and explain are judged first.
 fn judge_state(h: Header, words: usize) -> Result<(), Refusal>
     ensures { answered result ≡ refusal (check 11 (unfit h) ∷ check 6 (ltb words 4096) ∷ []) }
 {

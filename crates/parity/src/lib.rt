@@ -143,14 +143,14 @@ pub fn assume(h: Header, work: &mut [u64], literals: &mut [u64], code: usize) ->
     if let Err(r) = judge::judge_assume(h, work.len(), literals.len(), code) {
         return Reply::refused(h, r);
     }
-    let v = Literal::of(code).variable;
+    let l = Literal::of(code);
     // Which variables have a value before.
     let old: [u64; COEF_WORDS] = tableau::words_at(work, KNOWN);
-    match exchange::step(&mut work[..SIZE], h.kept, h.n, h.depth, code) {
+    match exchange::step(&mut work[..SIZE], h.kept, h.n, h.depth, l) {
         Offer::Held => Reply::done(h, Assuming::Held),
-        Offer::Conflict => Reply::done(h, Assuming::Conflict(v.number)),
+        Offer::Conflict => Reply::done(h, Assuming::Conflict(l.variable.number)),
         Offer::Taken => {
-            let count = lists::list_new(work, &old, v, h.n, literals);
+            let count = lists::list_new(work, &old, l.variable, h.n, literals);
             let depth = h.depth + 1;
             Reply::done(Header { depth, ..h }, Assuming::Taken(count))
         }

@@ -92,7 +92,7 @@ fn ready(work: &[u64], r: usize) -> Option<Variable>
 }
 
 // Row r is settled: where its basic variable is its only one without a value, the row gives it one.
-// Inlined, since the place of the next row must not wait for what is written here.
+// Inlined: else a loop over rows waits, before it finds the next one, for what this writes.
 #[inline(always)]
 pub fn settle_row(work: &mut [u64], r: usize)
     requires { (size ≤ length work.old) × (r < max_rows) }
