@@ -143,7 +143,8 @@ fn open_row(work: &mut [u64], rows: &[u64], q: usize, k: usize) -> Result<bool, 
     Ok(false)
 }
 
-// All m rows of the row store go in, until one contradicts; then the variables that the rows alone decide get their values. The answer is how many rows are kept.
+// All m rows of the row store go in, until one contradicts; then the variables that the rows alone decide get their values. The answer is
+// how many rows are kept.
 pub fn open_rows(work: &mut [u64], rows: &[u64], m: usize) -> Result<usize, Contradiction>
     requires { (size ≤ length work.old) × (9 * m ≤ length rows.now) × (m ≤ max_rows) }
     ensures { Answered m rows.now work.old result work.new }
