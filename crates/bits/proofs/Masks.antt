@@ -5,10 +5,9 @@
 --   head_calc             the first bits of a byte, and a word behind them
 --   last_calc             the first bits of a word, and one bit behind them
 -- Assumes nothing.
-use mathlib.Core.Path.{◌≡◌, sym, ap, ap₂, ◌∙◌}
+use mathlib.Core.Path.{◌≡◌, ap, ap₂, ◌∙◌}
 use Prim.Native.Nat.{ℕ, ◌+◌, ◌-◌, ◌*◌, ◌/◌, ◌%◌, ◌^◌, ◌≤◌, ◌<◌}
-use native.Mathlib.Nat.{mod-lt, one-mul, zero-mul}
-use native.Mathlib.Decide.{dec_lt}
+use native.Mathlib.Nat.{mod-lt, one-mul}
 use native.Mathlib.Omega.{arith}
 use lib.Arith.{digits_lt}
 use lib.Bits.{bit_and, bit_or, or_shifted, and_mask}
@@ -53,19 +52,8 @@ module _ (y off v : ℕ) (hy : y < 2 ^ 8) (h : off < 8) (hv : v < 2 ^ 64) where
   head_low : v / 2 ^ off < 2 ^ (64 - off)
   head_low = let e : 64 - off + off ≡ 64 = omega arith in shr_lt (64 - off) off (rw e hv)
 
-  -- the shift is by 64 - off; without any bits there is nothing to shift
-  head_shift : y / 2 ^ (8 - off) * 2 ^ ((64 - off) % 64) % 2 ^ 64 ≡ y / 2 ^ (8 - off) * 2 ^ (64 - off)
-  head_shift = go (dec_lt 0 off)
-    where
-      go : Dec (0 < off) → y / 2 ^ (8 - off) * 2 ^ ((64 - off) % 64) % 2 ^ 64 ≡ y / 2 ^ (8 - off) * 2 ^ (64 - off)
-      go (yes l) = let e : (64 - off) % 64 ≡ 64 - off = omega arith in
-          ap (λ (k : ℕ). y / 2 ^ (8 - off) * 2 ^ k % 2 ^ 64) e ∙ shl_exact off (64 - off) 64 head_top (omega arith)
-      go (no l) = let e : off ≡ 0 = omega arith in
-          let z : y / 2 ^ (8 - off) ≡ 0 = let t = rw e at head_top in rw e (omega arith) in
-          ap (λ (k : ℕ). k * 2 ^ ((64 - off) % 64) % 2 ^ 64) z ∙ ap (λ (k : ℕ). k % 2 ^ 64) (zero-mul (2 ^ ((64 - off) % 64))) ∙ sym (ap (λ (k : ℕ). k * 2 ^ (64 - off)) z ∙ zero-mul (2 ^ (64 - off)))
-
-  pub head_calc : bit_or (y / 2 ^ (8 - off) * 2 ^ ((64 - off) % 64) % 2 ^ 64) (v / 2 ^ off) ≡ y / 2 ^ (8 - off) * 2 ^ (64 - off) + v / 2 ^ off
-  head_calc = ap (λ (n : ℕ). bit_or n (v / 2 ^ off)) head_shift ∙ or_shifted (y / 2 ^ (8 - off)) (64 - off) (v / 2 ^ off) head_low
+  pub head_calc : bit_or (y / 2 ^ (8 - off) * 2 ^ (64 - off) % 2 ^ 64) (v / 2 ^ off) ≡ y / 2 ^ (8 - off) * 2 ^ (64 - off) + v / 2 ^ off
+  head_calc = ap (λ (n : ℕ). bit_or n (v / 2 ^ off)) (shl_exact off (64 - off) 64 head_top (omega arith)) ∙ or_shifted (y / 2 ^ (8 - off)) (64 - off) (v / 2 ^ off) head_low
 
 -- what `last_bits` computes
 pub last_calc : (v count p x y : ℕ) → count < 64 → v < 2 ^ 64 → x ≡ v / 2 ^ (64 - count) → y ≡ p % 2 ^ 1 → bit_or (x * 2 ^ 1 % 2 ^ 64) y ≡ v / 2 ^ (64 - count) * 2 ^ 1 + p % 2 ^ 1

@@ -1,29 +1,16 @@
 // Bits of bytes and of words of 64 bits, the top bit first: pieces of one byte, and windows of 64 bits that begin inside a byte.
+// Document 01 names shifts and masks for this place, so a word is not made by `from_be_bytes`.
 #![tactic(auto)]
 
 ghost use Rattle.std.specs.Prelude.{◌≡◌, ◌+◌, ◌-◌, ◌*◌, ◌/◌, ◌%◌, ◌^◌, ◌≤◌, ◌<◌, min, length, take, drop};
 ghost use Rattle.format.specs.Bits.{bits_of, bits_n, value_of, put_at};
 
-// The smaller of two numbers.
-pub fn shorter(a: usize, b: usize) -> usize
-    ensures { result ≡ min a b }
-{
-    if a < b { a } else { b }
-}
-
-// A byte as a word.
-fn wide(b: u8) -> u64
-    ensures { result ≡ b }
-{
-    b as u64
-}
-
-// v, k bits up. (A machine shifts by less than 64 only.)
+// v, k bits up.
 pub fn raised(v: u64, k: usize) -> u64
     requires { k ≤ 64 }
     ensures { result ≡ v * 2 ^ k % 2 ^ 64 }
 {
-    if k < 64 { v << k } else { 0 }
+    v.unbounded_shl(k as u32)
 }
 
 // v, k bits down.
@@ -31,7 +18,7 @@ pub fn lowered(v: u64, k: usize) -> u64
     requires { k ≤ 64 }
     ensures { result ≡ v / 2 ^ k }
 {
-    if k < 64 { v >> k } else { 0 }
+    v.unbounded_shr(k as u32)
 }
 
 // The first count bits of the word v, and the lowest bit of p.
@@ -47,7 +34,7 @@ pub fn piece(b: u8, off: usize, t: usize) -> u64
     requires { off + t ≤ 8 }
     ensures { result ≡ b / 2 ^ (8 - off - t) % 2 ^ t }
 {
-    (wide(b) >> (8 - off - t)) & ((1 << t) - 1)
+    (u64::from(b) >> (8 - off - t)) & ((1 << t) - 1)
 }
 
 // The byte y, with the t bits past its first off replaced by p.
@@ -55,7 +42,7 @@ pub fn patched(y: u8, p: u64, off: usize, t: usize) -> u8
     requires { (off + t ≤ 8) × (p < 2 ^ t) }
     ensures { result ≡ (y / 2 ^ (8 - off) * 2 ^ t + p) * 2 ^ (8 - off - t) + y % 2 ^ (8 - off - t) }
 {
-    let w = wide(y);
+    let w = u64::from(y);
     let sh = 8 - off - t;
     let top = ((w >> (8 - off)) << t) | p;
     let x = (top << sh) | (w & ((1 << sh) - 1));
@@ -67,7 +54,7 @@ fn joined_byte(v: u64, b: u8) -> u64
     requires { v < 2 ^ 56 }
     ensures { result ≡ v * 2 ^ 8 + b }
 {
-    (v << 8) | wide(b)
+    (v << 8) | u64::from(b)
 }
 
 // The 64 bits from byte q on. (A compiler makes one load of this loop.)
@@ -75,11 +62,9 @@ fn word(s: &[u8], q: usize) -> u64
     requires { q + 8 ≤ length s.now }
     ensures { result ≡ value_of (take 64 (drop (8 * q) (bits_of s.now))) }
 {
-    let mut v: u64 = 0;
-    let mut i: usize = 0;
-    while i < 8 {
+    let mut v = 0;
+    for i in 0..8 {
         v = joined_byte(v, s[q + i]);
-        i += 1;
     }
     v
 }
@@ -90,7 +75,7 @@ pub fn window(s: &[u8], q: usize, off: usize) -> u64
     ensures { result ≡ value_of (take 64 (drop (8 * q + off) (bits_of s.now))) }
 {
     let w = word(s, q);
-    let b = wide(s[q + 8]);
+    let b = u64::from(s[q + 8]);
     (w << off) | (b >> (8 - off))
 }
 
@@ -106,11 +91,8 @@ fn put_word(s: &mut [u8], q: usize, v: u64)
     requires { q + 8 ≤ length s.old }
     ensures { bits_of s.new ≡ put_at (bits_of s.old) (8 * q) (bits_n 64 v) }
 {
-    let mut i: usize = 0;
-    while i < 8 {
-        let x = low_byte(v >> (56 - 8 * i));
-        s[q + i] = x;
-        i += 1;
+    for i in 0..8 {
+        s[q + i] = low_byte(v >> (56 - 8 * i));
     }
 }
 
@@ -119,9 +101,8 @@ fn headed(y: u8, off: usize, v: u64) -> u64
     requires { off < 8 }
     ensures { result ≡ y / 2 ^ (8 - off) * 2 ^ (64 - off) + v / 2 ^ off }
 {
-    let first = wide(y) >> (8 - off);
-    // With off = 0 the shift would be by 64, which a machine does not do. It is by 64 % 64, which is 0, and first is 0 then.
-    (first << ((64 - off) % 64)) | (v >> off)
+    let first = u64::from(y) >> (8 - off);
+    raised(first, 64 - off) | (v >> off)
 }
 
 // Puts the 64 bits of v from bit off of byte q on.

@@ -4,20 +4,18 @@
 --   ReadExport .. r ..      r is the struct of an answer that the module promises, and so are the buffers after the call; WriteExport, OpenExport, AssumeExport and ExplainExport alike
 -- Back answers a plain number: its promise is BackPromise of parity itself.
 -- Assumes nothing.
-use Rattle.std.specs.Prelude.{◌≡◌, List, ℕ}
+use Rattle.std.specs.Prelude.{◌≡◌, List, ℕ, Result, Ok, Err}
+use Rattle.format.specs.Refusals.{answered}
+use Rattle.format.specs.declared.Refusal.{Refusal}
+use Rattle.cursor.specs.declared.shape.Shape.{Shape}
 use Rattle.judge.specs.declared.Header.{Header}
-use Rattle.sheet.specs.declared.Reading.{Reading}
-use Rattle.sheet.specs.declared.Reading.TheVariants as R
-use Rattle.sheet.specs.declared.Writing.{Writing}
-use Rattle.sheet.specs.declared.Writing.TheVariants as W
-use Rattle.sheet.specs.Reader as reader
-use Rattle.sheet.specs.Writer as writer
+use Rattle.sheet.specs.Reader.{Reads}
+use Rattle.sheet.specs.Writer.{Writes}
 use Rattle.parity.specs.declared.Opening.{Opening}
-use Rattle.parity.specs.declared.Opening.TheVariants.{OpenRefused, Unsatisfiable, Opened}
+use Rattle.parity.specs.declared.Opening.TheVariants.{Unsatisfiable, Opened}
 use Rattle.parity.specs.declared.Assuming.{Assuming}
-use Rattle.parity.specs.declared.Assuming.TheVariants.{AssumeRefused, Held, Conflict, Taken}
-use Rattle.parity.specs.declared.Explaining.{Explaining}
-use Rattle.parity.specs.declared.Explaining.TheVariants.{ExplainRefused, Explained}
+use Rattle.parity.specs.declared.Assuming.TheVariants.{Held, Conflict, Taken}
+use Rattle.parity.specs.declared.Explained.{Explained}
 use Rattle.parity.specs.Numbers.{open_number, assume_number, explain_number}
 use Rattle.parity.specs.Promises.{OpenPromise, AssumePromise, ExplainPromise}
 use Rattle.capi.specs.declared.ReadNumbers.{ReadNumbers}
@@ -29,48 +27,48 @@ use Rattle.capi.specs.declared.ExplainNumbers.{ExplainNumbers}
 -- ---- sheets
 
 -- n and m of a sheet that was read
-abbrev pub read_n : Reading → ℕ
-read_n (R.Refused c) = 0
-read_n (R.Read n m) = n
+abbrev pub read_n : Result Shape Refusal → ℕ
+read_n (Err r) = 0
+read_n (Ok h) = h.n
 
-abbrev pub read_m : Reading → ℕ
-read_m (R.Refused c) = 0
-read_m (R.Read n m) = m
+abbrev pub read_m : Result Shape Refusal → ℕ
+read_m (Err r) = 0
+read_m (Ok h) = h.m
 
-abbrev pub read_numbers : Reading → ReadNumbers
-read_numbers a = record { number = reader.number a; n = read_n a; m = read_m a }
+abbrev pub read_numbers : Result Shape Refusal → ReadNumbers
+read_numbers a = record { number = answered a; n = read_n a; m = read_m a }
 
 pub record ReadExport (s old : List ℕ) (r : ReadNumbers) (new : List ℕ) : Type 0 where
-  pub answer : Reading
-  pub promise : reader.Reads s old answer new
+  pub answer : Result Shape Refusal
+  pub promise : Reads s old answer new
   pub numbers : r ≡ read_numbers answer
 
 -- the bytes of a sheet that was written
-abbrev pub write_size : Writing → ℕ
-write_size (W.Refused c) = 0
-write_size (W.Written size) = size
+abbrev pub write_size : Result ℕ Refusal → ℕ
+write_size (Err r) = 0
+write_size (Ok size) = size
 
-abbrev pub write_numbers : Writing → WriteNumbers
-write_numbers a = record { number = writer.number a; size = write_size a }
+abbrev pub write_numbers : Result ℕ Refusal → WriteNumbers
+write_numbers a = record { number = answered a; size = write_size a }
 
 pub record WriteExport (n m : ℕ) (ws old : List ℕ) (r : WriteNumbers) (new : List ℕ) : Type 0 where
-  pub answer : Writing
-  pub promise : writer.Writes n m ws old answer new
+  pub answer : Result ℕ Refusal
+  pub promise : Writes n m ws old answer new
   pub numbers : r ≡ write_numbers answer
 
 -- ---- open
 
 -- how many row numbers or implied literals are listed
-abbrev pub open_count : Opening → ℕ
-open_count (OpenRefused c) = 0
-open_count (Unsatisfiable x) = x
-open_count (Opened x) = x
+abbrev pub open_count : Result Opening Refusal → ℕ
+open_count (Err r) = 0
+open_count (Ok (Unsatisfiable x)) = x
+open_count (Ok (Opened x)) = x
 
-abbrev pub open_numbers : Opening → Header → OpenNumbers
+abbrev pub open_numbers : Result Opening Refusal → Header → OpenNumbers
 open_numbers a h = record { number = open_number a; count = open_count a; header = h }
 
 pub record OpenExport (old : Header) (s store work literals rows : List ℕ) (r : OpenNumbers) (store' work' literals' rows' : List ℕ) : Type 0 where
-  pub answer : Opening
+  pub answer : Result Opening Refusal
   pub after : Header
   pub promise : OpenPromise old s store work literals rows after answer store' work' literals' rows'
   pub numbers : r ≡ open_numbers answer after
@@ -78,17 +76,17 @@ pub record OpenExport (old : Header) (s store work literals rows : List ℕ) (r 
 -- ---- assume
 
 -- how many newly implied literals are listed; of a conflict, the variable
-abbrev pub assume_count : Assuming → ℕ
-assume_count (AssumeRefused c) = 0
-assume_count Held = 0
-assume_count (Conflict v) = v
-assume_count (Taken x) = x
+abbrev pub assume_count : Result Assuming Refusal → ℕ
+assume_count (Err r) = 0
+assume_count (Ok Held) = 0
+assume_count (Ok (Conflict v)) = v
+assume_count (Ok (Taken x)) = x
 
-abbrev pub assume_numbers : Assuming → Header → AssumeNumbers
+abbrev pub assume_numbers : Result Assuming Refusal → Header → AssumeNumbers
 assume_numbers a h = record { number = assume_number a; count = assume_count a; header = h }
 
 pub record AssumeExport (old : Header) (work literals : List ℕ) (code : ℕ) (r : AssumeNumbers) (work' literals' : List ℕ) : Type 0 where
-  pub answer : Assuming
+  pub answer : Result Assuming Refusal
   pub after : Header
   pub promise : AssumePromise old work literals code after answer work' literals'
   pub numbers : r ≡ assume_numbers answer after
@@ -96,18 +94,18 @@ pub record AssumeExport (old : Header) (work literals : List ℕ) (code : ℕ) (
 -- ---- explain
 
 -- how many codes of the clause, and how many row numbers, are listed
-abbrev pub explain_clause : Explaining → ℕ
-explain_clause (ExplainRefused c) = 0
-explain_clause (Explained x y) = x
+abbrev pub explain_clause : Result Explained Refusal → ℕ
+explain_clause (Err r) = 0
+explain_clause (Ok e) = e.codes
 
-abbrev pub explain_rows : Explaining → ℕ
-explain_rows (ExplainRefused c) = 0
-explain_rows (Explained x y) = y
+abbrev pub explain_rows : Result Explained Refusal → ℕ
+explain_rows (Err r) = 0
+explain_rows (Ok e) = e.numbers
 
-abbrev pub explain_numbers : Explaining → ExplainNumbers
+abbrev pub explain_numbers : Result Explained Refusal → ExplainNumbers
 explain_numbers a = record { number = explain_number a; clause = explain_clause a; rows = explain_rows a }
 
 pub record ExplainExport (h : Header) (work clause rows : List ℕ) (v : ℕ) (r : ExplainNumbers) (clause' rows' : List ℕ) : Type 0 where
-  pub answer : Explaining
+  pub answer : Result Explained Refusal
   pub promise : ExplainPromise h work clause rows v answer clause' rows'
   pub numbers : r ≡ explain_numbers answer

@@ -1,12 +1,12 @@
-// The C interface: the calls with numbers and slices, as include/parity.h declares them. Each answer is a struct of numbers; a field that the number gives no meaning is 0.
+// The C interface: the calls with numbers and slices, as include/parity.h declares them. Each answer is a struct of numbers, since C reads
+// it; a field that the number gives no meaning is 0.
 #![tactic(auto)]
 
 ghost use Rattle.parity.specs.Promises.{BackPromise};
 ghost use Rattle.capi.specs.Exports.{ReadExport, WriteExport, OpenExport, AssumeExport, ExplainExport};
 
 use judge::Header;
-use parity::{Assuming, Explaining, Opening};
-use sheet::{Reading, Writing};
+use parity::{Assuming, Opening, Reply};
 
 // The numbers of answers that are neither 0, done, nor a refusal.
 const HELD: u64 = 100;
@@ -64,14 +64,17 @@ pub struct ExplainNumbers {
 pub extern "C" fn parity_read(s: &[u8], store: &mut [u64]) -> ReadNumbers
     ensures { ReadExport s.now store.old result store.new }
 {
-    let a = sheet::read(s, store);
-    match a {
-        Reading::Refused(c) => ReadNumbers {
-            number: c as u64,
+    match sheet::read(s, store) {
+        Ok(shape) => ReadNumbers {
+            number: 0,
+            n: shape.n,
+            m: shape.m,
+        },
+        Err(r) => ReadNumbers {
+            number: r.number(),
             n: 0,
             m: 0,
         },
-        Reading::Read { n, m } => ReadNumbers { number: 0, n, m },
     }
 }
 
@@ -80,13 +83,12 @@ pub extern "C" fn parity_read(s: &[u8], store: &mut [u64]) -> ReadNumbers
 pub extern "C" fn parity_write(n: usize, m: usize, store: &[u64], out: &mut [u8]) -> WriteNumbers
     ensures { WriteExport n m store.now out.old result out.new }
 {
-    let a = sheet::write(n, m, store, out);
-    match a {
-        Writing::Refused(c) => WriteNumbers {
-            number: c as u64,
+    match sheet::write(n, m, store, out) {
+        Ok(size) => WriteNumbers { number: 0, size },
+        Err(r) => WriteNumbers {
+            number: r.number(),
             size: 0,
         },
-        Writing::Written { size } => WriteNumbers { number: 0, size },
     }
 }
 
@@ -102,25 +104,16 @@ pub extern "C" fn parity_open(
 ) -> OpenNumbers
     ensures { OpenExport old s.now store.old work.old literals.old rows.old result store.new work.new literals.new rows.new }
 {
-    let a = parity::open(old, s, store, work, literals, rows);
-    let header = a.header;
-    let answer = a.answer;
-    match answer {
-        Opening::OpenRefused(c) => OpenNumbers {
-            number: c as u64,
-            count: 0,
-            header,
-        },
-        Opening::Unsatisfiable(count) => OpenNumbers {
-            number: UNSATISFIABLE,
-            count,
-            header,
-        },
-        Opening::Opened(count) => OpenNumbers {
-            number: 0,
-            count,
-            header,
-        },
+    let Reply { header, answer } = parity::open(old, s, store, work, literals, rows);
+    let (number, count) = match answer {
+        Ok(Opening::Opened(count)) => (0, count),
+        Ok(Opening::Unsatisfiable(count)) => (UNSATISFIABLE, count),
+        Err(r) => (r.number(), 0),
+    };
+    OpenNumbers {
+        number,
+        count,
+        header,
     }
 }
 
@@ -134,30 +127,17 @@ pub extern "C" fn parity_assume(
 ) -> AssumeNumbers
     ensures { AssumeExport h work.old literals.old code result work.new literals.new }
 {
-    let a = parity::assume(h, work, literals, code);
-    let header = a.header;
-    let answer = a.answer;
-    match answer {
-        Assuming::AssumeRefused(c) => AssumeNumbers {
-            number: c as u64,
-            count: 0,
-            header,
-        },
-        Assuming::Held => AssumeNumbers {
-            number: HELD,
-            count: 0,
-            header,
-        },
-        Assuming::Conflict(v) => AssumeNumbers {
-            number: CONFLICT,
-            count: v,
-            header,
-        },
-        Assuming::Taken(count) => AssumeNumbers {
-            number: 0,
-            count,
-            header,
-        },
+    let Reply { header, answer } = parity::assume(h, work, literals, code);
+    let (number, count) = match answer {
+        Ok(Assuming::Held) => (HELD, 0),
+        Ok(Assuming::Conflict(v)) => (CONFLICT, v),
+        Ok(Assuming::Taken(count)) => (0, count),
+        Err(r) => (r.number(), 0),
+    };
+    AssumeNumbers {
+        number,
+        count,
+        header,
     }
 }
 
@@ -166,9 +146,12 @@ pub extern "C" fn parity_assume(
 pub extern "C" fn parity_back(h: &mut Header, work: &mut [u64], depth: usize) -> u64
     ensures { BackPromise h.old work.old depth result h.new work.new }
 {
-    let a = parity::back_core(*h, work, depth);
-    *h = a.header;
-    a.number
+    let Reply { header, answer } = parity::back_core(*h, work, depth);
+    *h = header;
+    match answer {
+        Ok(()) => 0,
+        Err(r) => r.number(),
+    }
 }
 
 // The value of a variable is explained.
@@ -182,17 +165,16 @@ pub extern "C" fn parity_explain(
 ) -> ExplainNumbers
     ensures { ExplainExport h work.now clause.old rows.old v result clause.new rows.new }
 {
-    let a = parity::explain(h, work, clause, rows, v);
-    match a {
-        Explaining::ExplainRefused(c) => ExplainNumbers {
-            number: c as u64,
+    match parity::explain(h, work, clause, rows, v) {
+        Ok(listed) => ExplainNumbers {
+            number: 0,
+            clause: listed.codes,
+            rows: listed.numbers,
+        },
+        Err(r) => ExplainNumbers {
+            number: r.number(),
             clause: 0,
             rows: 0,
-        },
-        Explaining::Explained(x, y) => ExplainNumbers {
-            number: 0,
-            clause: x,
-            rows: y,
         },
     }
 }

@@ -5,7 +5,11 @@ ghost use Rattle.std.specs.Prelude.{◌≡◌, ◌+◌, ◌*◌, ◌^◌, ◌≤
 ghost use Rattle.format.specs.Bits.{bits_of, bits_n, value_of, put_at};
 ghost use Rattle.format.specs.Sheet.{n_of, m_of, bits_for, size_for};
 
-// How many bits stand before it.
+pub use shape::Shape;
+
+mod shape;
+
+// How many bits stand before it. That they are fewer than 2 ^ 32 is asked where it is used, so that nothing is to be shown where it moves.
 #[derive(Clone, Copy)]
 pub struct Cursor {
     pub at: usize,
@@ -18,13 +22,6 @@ pub struct Field {
     pub next: Cursor,
 }
 
-// The two numbers at the head of a sheet.
-#[derive(Clone, Copy)]
-pub struct Head {
-    pub n: usize,
-    pub m: usize,
-}
-
 impl Cursor {
     // The next count bits of s, byte by byte: for the last nine bytes, which hold no window of 64 bits at every bit.
     fn field_bytes(self, s: &[u8], count: usize) -> Field
@@ -34,11 +31,12 @@ impl Cursor {
         let at = self.at;
         let mut value: u64 = 0;
         let mut done: usize = 0;
+        // The pieces are of varying size, so no range counts them.
         while done < count {
             let i = at + done;
             let q = i / 8;
             let off = i % 8;
-            let t = bits::shorter(8 - off, count - done);
+            let t = (8 - off).min(count - done);
             let p = bits::piece(s[q], off, t);
             value = (value << t) | p;
             done += t;
@@ -68,36 +66,19 @@ impl Cursor {
         }
     }
 
-    // The next 64 bits of s.
-    pub fn field_64(self, s: &[u8]) -> Field
-        requires { (self.at + 64 ≤ 8 * length s.now) × (self.at < 2 ^ 32) }
-        ensures { (result.value ≡ value_of (take 64 (drop self.at (bits_of s.now)))) × (result.next.at ≡ self.at + 64) }
-    {
-        let at = self.at;
-        let first = at / 8;
-        if first + 9 <= s.len() {
-            let value = bits::window(s, first, at % 8);
-            Field {
-                value,
-                next: Cursor { at: at + 64 },
-            }
-        } else {
-            self.field_bytes(s, 64)
-        }
-    }
-
-    // Puts the count low bits of value at the cursor.
-    pub fn put(self, s: &mut [u8], value: u64, count: usize) -> Cursor
+    // Puts the count low bits of value at the cursor, byte by byte.
+    fn put_bytes(self, s: &mut [u8], value: u64, count: usize) -> Cursor
         requires { (count ≤ 64) × (self.at + count ≤ 8 * length s.old) × (self.at < 2 ^ 32) }
         ensures { (bits_of s.new ≡ put_at (bits_of s.old) self.at (bits_n count value)) × (result.at ≡ self.at + count) }
     {
         let at = self.at;
         let mut done: usize = 0;
+        // As in `field_bytes`.
         while done < count {
             let i = at + done;
             let q = i / 8;
             let off = i % 8;
-            let t = bits::shorter(8 - off, count - done);
+            let t = (8 - off).min(count - done);
             let p = (value >> (count - done - t)) & ((1 << t) - 1);
             let x = bits::patched(s[q], p, off, t);
             s[q] = x;
@@ -106,51 +87,58 @@ impl Cursor {
         Cursor { at: at + count }
     }
 
-    // Puts the 64 bits of value at the cursor.
-    pub fn put_64(self, s: &mut [u8], value: u64) -> Cursor
-        requires { (self.at + 64 ≤ 8 * length s.old) × (self.at < 2 ^ 32) }
-        ensures { (bits_of s.new ≡ put_at (bits_of s.old) self.at (bits_n 64 value)) × (result.at ≡ self.at + 64) }
+    // Puts the count low bits of value at the cursor.
+    pub fn put(self, s: &mut [u8], value: u64, count: usize) -> Cursor
+        requires { (count ≤ 64) × (self.at + count ≤ 8 * length s.old) × (self.at < 2 ^ 32) }
+        ensures { (bits_of s.new ≡ put_at (bits_of s.old) self.at (bits_n count value)) × (result.at ≡ self.at + count) }
     {
         let at = self.at;
-        let first = at / 8;
-        if first + 9 <= s.len() {
-            bits::put_window(s, first, at % 8, value);
-            Cursor { at: at + 64 }
-        } else {
-            self.put(s, value, 64)
+        let q = at / 8;
+        if count == 64 && q + 9 <= s.len() {
+            bits::put_window(s, q, at % 8, value);
+            return Cursor { at: at + 64 };
         }
+        self.put_bytes(s, value, count)
     }
 }
 
 // ---- the head, and the size that it says
 
+// The two numbers at the head of a sheet, of ten and of nine bits.
+#[derive(Clone, Copy)]
+pub struct Head {
+    pub n: usize,
+    pub m: usize,
+    pub ghost n_fits: { n < 1024 },
+    pub ghost m_fits: { m < 512 },
+}
+
 // n and m, as the first 19 bits say them.
 pub fn head_of(s: &[u8]) -> Head
     requires { 3 ≤ length s.now }
-    ensures { (result.n ≡ n_of s.now) × (result.m ≡ m_of s.now) × (result.n < 1024) × (result.m < 512) }
+    ensures { (result.n ≡ n_of s.now) × (result.m ≡ m_of s.now) }
 {
     let start = Cursor { at: 0 };
-    let f = start.field(s, 10);
-    let c = f.next;
-    let g = c.field(s, 9);
+    let n = start.field(s, 10);
+    let m = n.next.field(s, 9);
     Head {
-        n: f.value as usize,
-        m: g.value as usize,
+        n: n.value as usize,
+        m: m.value as usize,
     }
 }
 
-// How many bits a sheet of n variables and m rows means: of all that a head can say, also of what is refused.
-pub fn bits_for(n: usize, m: usize) -> usize
-    requires { (n < 1024) × (m < 512) }
-    ensures { (result ≡ bits_for n m) × (result < 2 ^ 19) }
-{
-    19 + m * (n + 1)
-}
+impl Head {
+    // How many bits a sheet of n variables and m rows means: of all that a head can say, also of what is refused.
+    pub fn bits(self) -> usize
+        ensures { (result ≡ bits_for self.n self.m) × (result < 2 ^ 19) }
+    {
+        19 + self.m * (self.n + 1)
+    }
 
-// How many bytes hold them.
-pub fn size_for(n: usize, m: usize) -> usize
-    requires { (n < 1024) × (m < 512) }
-    ensures { (result ≡ size_for n m) × (result ≤ 2 ^ 16) }
-{
-    (bits_for(n, m) + 7) / 8
+    // How many bytes hold them.
+    pub fn size(self) -> usize
+        ensures { (result ≡ size_for self.n self.m) × (result ≤ 2 ^ 16) }
+    {
+        self.bits().div_ceil(8)
+    }
 }

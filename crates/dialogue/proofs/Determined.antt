@@ -7,6 +7,10 @@ use mathlib.Core.Bool.{Bool}
 use mathlib.Core.List.{List}
 use Prim.Native.Nat.{ℕ, ◌/◌, ◌%◌}
 use native.Mathlib.Omega.{arith}
+use Rattle.std.specs.Prelude.{Result, Ok, Err}
+use Rattle.format.specs.Refusals.{answered}
+use Rattle.format.specs.declared.Refusal.{Refusal}
+use Rattle.format.proofs.Answering.{number_pos}
 use Rattle.gf2.specs.Answers.{Position}
 use Rattle.judge.specs.declared.Header.{Header}
 use Rattle.lines.specs.Lines.{Said, Put, text}
@@ -44,11 +48,18 @@ assume_same h work literals line code made {r} {r'} {work₁} {work₂} {literal
     let l = line_same (ap₂ said_assuming d.answer d.listed) p.says q.says in
     (step_same r r' d.header l.1 (p.more ∙ sym q.more), d.listed, l.0)
 
+-- where there is no value beside it, an answer is its number
+said_same : (a b : Result (Unit {0}) Refusal) (d e : ℕ) → answered a ≡ answered b → d ≡ e → said_backing a d ≡ said_backing b e
+said_same (Ok x) (Ok y) d e n m = ap Said.back m
+said_same (Ok x) (Err q) d e n m = absurd (omega (arith, number_pos q))
+said_same (Err r) (Ok y) d e n m = absurd (omega (arith, number_pos r))
+said_same (Err r) (Err q) d e n m = ap Said.refused n
+
 back_same : (h : Header) (work line : List ℕ) (depth : ℕ) {r r' : Step} {work₁ work₂ line₁ line₂ : List ℕ}
     → BackStep h work line depth r work₁ line₁ → BackStep h work line depth r' work₂ line₂ → (r ≡ r') × (line₁ ≡ line₂)
 back_same h work line depth {r} {r'} {work₁} {work₂} p q =
-    let d = back_determined h work depth p.number q.number r.header r'.header work₁ work₂ p.promise q.promise in
-    let l = line_same (ap₂ said_backing d.0 (ap (λ (k : Header). k.depth) d.1)) p.says q.says in
+    let d = back_determined h work depth (answered p.answer) (answered q.answer) r.header r'.header work₁ work₂ p.promise q.promise in
+    let l = line_same (said_same p.answer q.answer r.header.depth r'.header.depth d.0 (ap (λ (k : Header). k.depth) d.1)) p.says q.says in
     (step_same r r' d.1 l.1 (p.more ∙ sym q.more), l.0)
 
 explain_same : (h : Header) (work literals rows line : List ℕ) (v : ℕ) → (ExplainRefusal h work literals rows v ≡ 0 → (p : Position) × Stands h work p) → {r r' : Step} {literals₁ literals₂ rows₁ rows₂ line₁ line₂ : List ℕ}

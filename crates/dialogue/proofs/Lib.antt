@@ -1,4 +1,3 @@
 pub mod Fits
 pub mod Parts
-pub mod Cases
 pub mod Determined

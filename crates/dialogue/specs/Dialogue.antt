@@ -4,15 +4,16 @@
 --   said_opening, said_assuming, said_backing, said_explaining   the line of each answer, its lists read from the buffers as the call left them
 --   goes_on a              whether commands follow an opening: a refused or unsatisfiable one ends the session
 -- Assumes nothing.
-use Rattle.std.specs.Prelude.{List, Bool, true, false, ℕ, zero, suc, ◌+◌, ◌*◌, min, length, take}
+use Rattle.std.specs.Prelude.{List, Bool, true, false, ℕ, ◌+◌, ◌*◌, min, length, take, Result, Ok, Err}
+use Rattle.format.specs.Refusals.{number}
 use Rattle.format.specs.Sheet.{n_of, m_of, size_for}
+use Rattle.format.specs.declared.Refusal.{Refusal}
 use Rattle.lines.specs.Lines.{Said}
 use Rattle.parity.specs.declared.Opening.{Opening}
-use Rattle.parity.specs.declared.Opening.TheVariants.{OpenRefused, Unsatisfiable, Opened}
+use Rattle.parity.specs.declared.Opening.TheVariants.{Unsatisfiable, Opened}
 use Rattle.parity.specs.declared.Assuming.{Assuming}
-use Rattle.parity.specs.declared.Assuming.TheVariants.{AssumeRefused, Held, Conflict, Taken}
-use Rattle.parity.specs.declared.Explaining.{Explaining}
-use Rattle.parity.specs.declared.Explaining.TheVariants.{ExplainRefused, Explained}
+use Rattle.parity.specs.declared.Assuming.TheVariants.{Held, Conflict, Taken}
+use Rattle.parity.specs.declared.Explained.{Explained}
 
 -- ---- the input
 
@@ -24,27 +25,27 @@ command_of high low = high * 256 + low
 
 -- ---- the lines
 
-abbrev pub said_opening : Opening → ℕ → List ℕ → List ℕ → Said
-said_opening (OpenRefused number) kept literals rows = Said.refused number
-said_opening (Unsatisfiable count) kept literals rows = Said.unsatisfiable (take count rows)
-said_opening (Opened count) kept literals rows = Said.opened kept (take count literals)
+abbrev pub said_opening : Result Opening Refusal → ℕ → List ℕ → List ℕ → Said
+said_opening (Err r) kept literals rows = Said.refused (number r)
+said_opening (Ok (Unsatisfiable count)) kept literals rows = Said.unsatisfiable (take count rows)
+said_opening (Ok (Opened count)) kept literals rows = Said.opened kept (take count literals)
 
-abbrev pub said_assuming : Assuming → List ℕ → Said
-said_assuming (AssumeRefused number) literals = Said.refused number
-said_assuming Held literals = Said.held
-said_assuming (Conflict variable) literals = Said.conflict variable
-said_assuming (Taken count) literals = Said.implied (take count literals)
+abbrev pub said_assuming : Result Assuming Refusal → List ℕ → Said
+said_assuming (Err r) literals = Said.refused (number r)
+said_assuming (Ok Held) literals = Said.held
+said_assuming (Ok (Conflict variable)) literals = Said.conflict variable
+said_assuming (Ok (Taken count)) literals = Said.implied (take count literals)
 
--- the answer of back is a number, 0 where it went back, and the depth is the one it went back to
-abbrev pub said_backing : ℕ → ℕ → Said
-said_backing zero depth = Said.back depth
-said_backing (suc c) depth = Said.refused (suc c)
+-- the depth is the one that was gone back to
+abbrev pub said_backing : Result (Unit {0}) Refusal → ℕ → Said
+said_backing (Err r) depth = Said.refused (number r)
+said_backing (Ok x) depth = Said.back depth
 
-abbrev pub said_explaining : Explaining → ℕ → List ℕ → List ℕ → Said
-said_explaining (ExplainRefused number) variable clause rows = Said.refused number
-said_explaining (Explained literals numbers) variable clause rows = Said.explained variable (take literals clause) (take numbers rows)
+abbrev pub said_explaining : Result Explained Refusal → ℕ → List ℕ → List ℕ → Said
+said_explaining (Err r) variable clause rows = Said.refused (number r)
+said_explaining (Ok e) variable clause rows = Said.explained variable (take e.codes clause) (take e.numbers rows)
 
-abbrev pub goes_on : Opening → Bool
-goes_on (OpenRefused number) = false
-goes_on (Unsatisfiable count) = false
-goes_on (Opened count) = true
+abbrev pub goes_on : Result Opening Refusal → Bool
+goes_on (Err r) = false
+goes_on (Ok (Unsatisfiable count)) = false
+goes_on (Ok (Opened count)) = true

@@ -1,16 +1,19 @@
 // A session step by step: the sheet at the start of the input, and each command after it. A step is one call and its line, which stands
-// at the start of the line buffer. Nothing is read or written here.
+// at the start of the line buffer. Nothing is read or written here. The line buffer is a slice of `room` bytes or more: an array of so
+// many would ask more of those who lend it.
 #![tactic(auto)]
 
 ghost use Rattle.std.specs.Prelude.{◌≡◌, ◌≤◌, length};
 ghost use Rattle.lines.specs.Lines.{Put, text};
-ghost use Rattle.dialogue.specs.Dialogue.{sheet_end, command_of, said_opening, said_assuming, said_backing, said_explaining, goes_on};
+ghost use Rattle.dialogue.specs.Dialogue.{sheet_end, command_of, said_opening, said_assuming, said_backing, said_explaining};
 ghost use Rattle.dialogue.specs.Steps.{room, OpeningFits, AssumingFits, ExplainingFits, Begins, AssumeStep, BackStep, ExplainStep, Turns};
 
+use format::Refusal;
 use judge::Header;
-use parity::{Assuming, Explaining, Opening};
+use parity::{Assuming, Explained, Opening, Reply};
 
-// The header after a step, where its line ends in the line buffer, and whether the session goes on.
+// The header after a step, where its line ends in the line buffer, and whether the session goes on. The header is promised also where it
+// does not, so the step is no Option.
 #[derive(Clone, Copy)]
 pub struct Step {
     pub header: Header,
@@ -27,16 +30,15 @@ pub fn sheet_end(s: &[u8]) -> usize
     if s.len() < 3 {
         return s.len();
     }
-    let h = cursor::head_of(s);
-    let size = cursor::size_for(h.n, h.m);
-    bits::shorter(size, s.len())
+    let head = cursor::head_of(s);
+    head.size().min(s.len())
 }
 
 // The command of two bytes.
 pub fn command(high: u8, low: u8) -> u16
     ensures { result ≡ command_of high low }
 {
-    (high as u16) * 256 + (low as u16)
+    u16::from_be_bytes([high, low])
 }
 
 // ---- the line of an answer
@@ -44,76 +46,65 @@ pub fn command(high: u8, low: u8) -> u16
 // The line of an opening stands at the start of `line`; where it ends.
 fn line_of_opening(
     line: &mut [u8],
-    a: Opening,
+    answer: Result<Opening, Refusal>,
     kept: usize,
     literals: &[u64],
     rows: &[u64],
 ) -> usize
-    requires { (room ≤ length line.old) × OpeningFits a literals.now rows.now }
-    ensures { Put line.old 0 (text (said_opening a kept literals.now rows.now)) line.new result }
+    requires { (room ≤ length line.old) × OpeningFits answer literals.now rows.now }
+    ensures { Put line.old 0 (text (said_opening answer kept literals.now rows.now)) line.new result }
 {
-    match a {
-        Opening::OpenRefused(number) => lines::refused(line, number as u64),
-        Opening::Unsatisfiable(count) => lines::unsatisfiable(line, rows, count),
-        Opening::Opened(count) => lines::opened(line, kept as u64, literals, count),
+    match answer {
+        Err(refusal) => lines::refused(line, refusal.number()),
+        Ok(Opening::Unsatisfiable(count)) => lines::unsatisfiable(line, &rows[..count]),
+        Ok(Opening::Opened(count)) => lines::opened(line, kept as u64, &literals[..count]),
     }
 }
 
 // The line of an assume stands at the start of `line`; where it ends.
-fn line_of_assuming(line: &mut [u8], a: Assuming, literals: &[u64]) -> usize
-    requires { (room ≤ length line.old) × AssumingFits a literals.now }
-    ensures { Put line.old 0 (text (said_assuming a literals.now)) line.new result }
+fn line_of_assuming(line: &mut [u8], answer: Result<Assuming, Refusal>, literals: &[u64]) -> usize
+    requires { (room ≤ length line.old) × AssumingFits answer literals.now }
+    ensures { Put line.old 0 (text (said_assuming answer literals.now)) line.new result }
 {
-    match a {
-        Assuming::AssumeRefused(number) => lines::refused(line, number as u64),
-        Assuming::Held => lines::held(line),
-        Assuming::Conflict(variable) => lines::conflict(line, variable as u64),
-        Assuming::Taken(count) => lines::implied(line, literals, count),
+    match answer {
+        Err(refusal) => lines::refused(line, refusal.number()),
+        Ok(Assuming::Held) => lines::held(line),
+        Ok(Assuming::Conflict(variable)) => lines::conflict(line, variable as u64),
+        Ok(Assuming::Taken(count)) => lines::implied(line, &literals[..count]),
     }
 }
 
-// The line of a back, which answered `number`, stands at the start of `line`; where it ends.
-fn line_of_backing(line: &mut [u8], number: u64, depth: usize) -> usize
+// The line of a back stands at the start of `line`; where it ends.
+fn line_of_backing(line: &mut [u8], answer: Result<(), Refusal>, depth: usize) -> usize
     requires { room ≤ length line.old }
-    ensures { Put line.old 0 (text (said_backing number depth)) line.new result }
+    ensures { Put line.old 0 (text (said_backing answer depth)) line.new result }
 {
-    match number {
-        0 => lines::back(line, depth as u64),
-        _ => lines::refused(line, number),
+    match answer {
+        Err(refusal) => lines::refused(line, refusal.number()),
+        Ok(()) => lines::back(line, depth as u64),
     }
 }
 
 // The line of an explain of `variable` stands at the start of `line`; where it ends.
 fn line_of_explaining(
     line: &mut [u8],
-    a: Explaining,
+    answer: Result<Explained, Refusal>,
     variable: usize,
     clause: &[u64],
     rows: &[u64],
 ) -> usize
-    requires { (room ≤ length line.old) × ExplainingFits a clause.now rows.now }
-    ensures { Put line.old 0 (text (said_explaining a variable clause.now rows.now)) line.new result }
+    requires { (room ≤ length line.old) × ExplainingFits answer clause.now rows.now }
+    ensures { Put line.old 0 (text (said_explaining answer variable clause.now rows.now)) line.new result }
 {
-    match a {
-        Explaining::ExplainRefused(number) => lines::refused(line, number as u64),
-        Explaining::Explained(literals, numbers) => {
-            lines::explained(line, variable as u64, clause, literals, rows, numbers)
+    match answer {
+        Err(refusal) => lines::refused(line, refusal.number()),
+        Ok(Explained { codes, numbers }) => {
+            lines::explained(line, variable as u64, &clause[..codes], &rows[..numbers])
         }
     }
 }
 
 // ---- the steps
-
-// Whether commands follow an opening.
-fn goes_on(a: Opening) -> bool
-    ensures { result ≡ goes_on a }
-{
-    match a {
-        Opening::OpenRefused(_) => false,
-        Opening::Unsatisfiable(_) => false,
-        Opening::Opened(_) => true,
-    }
-}
 
 // The opening: `s` is taken for the sheet.
 pub fn begin(
@@ -128,18 +119,9 @@ pub fn begin(
     ensures { Begins s.now store.old work.old literals.old rows.old line.old result
         store.new work.new literals.new rows.new line.new }
 {
-    let none = Header {
-        open: 0,
-        n: 0,
-        m: 0,
-        kept: 0,
-        depth: 0,
-    };
-    let out = parity::open(none, s, store, work, literals, rows);
-    let header = out.header;
-    let answer = out.answer;
+    let Reply { header, answer } = parity::open(Header::default(), s, store, work, literals, rows);
     let end = line_of_opening(line, answer, header.kept, literals, rows);
-    let more = goes_on(answer);
+    let more = matches!(answer, Ok(Opening::Opened(_)));
     Step { header, end, more }
 }
 
@@ -148,9 +130,7 @@ fn assume(h: Header, work: &mut [u64], literals: &mut [u64], line: &mut [u8], co
     requires { room ≤ length line.old }
     ensures { AssumeStep h work.old literals.old line.old code result work.new literals.new line.new }
 {
-    let out = parity::assume(h, work, literals, code);
-    let header = out.header;
-    let answer = out.answer;
+    let Reply { header, answer } = parity::assume(h, work, literals, code);
     let end = line_of_assuming(line, answer, literals);
     Step {
         header,
@@ -164,9 +144,8 @@ fn back(h: Header, work: &mut [u64], line: &mut [u8], depth: usize) -> Step
     requires { room ≤ length line.old }
     ensures { BackStep h work.old line.old depth result work.new line.new }
 {
-    let out = parity::back_core(h, work, depth);
-    let header = out.header;
-    let end = line_of_backing(line, out.number, header.depth);
+    let Reply { header, answer } = parity::back_core(h, work, depth);
+    let end = line_of_backing(line, answer, header.depth);
     Step {
         header,
         end,

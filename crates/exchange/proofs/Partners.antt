@@ -9,15 +9,15 @@ use mathlib.Core.Path.{◌≡◌, sym, ap, ap₂, ◌∙◌}
 use mathlib.Core.List.{List}
 use mathlib.Core.Bool.{Bool, true, false, not, ◌&&◌}
 use mathlib.Core.Logic.{◌≢◌}
-use Prim.Native.Nat.{ℕ, suc, ◌+◌, ◌*◌, ◌-◌, ◌%◌, ◌^◌, ◌<◌, ◌≤◌}
+use Prim.Native.Nat.{ℕ, suc, ◌+◌, ◌*◌, ◌-◌, ◌^◌, ◌<◌, ◌≤◌}
 use native.Mathlib.Decide.{dec_lt}
 use native.Mathlib.Omega.{arith}
 use lib.Bits.{bit_and, bit_xor}
-use lib.Count.{count_leading_zeros}
 use lib.ListN.{get_or}
+use Rattle.words.specs.Ones.{Top}
 use Rattle.words.specs.Words.{bit_of}
 use Rattle.words.proofs.Bits.{bit_without, bit_in}
-use Rattle.words.proofs.Ones.{zeros_lt, Left, left_start, left_end, left_top, left_skip, left_next}
+use Rattle.words.proofs.Tops.{Left, left_start, left_end, left_top, left_skip, left_next}
 use Rattle.tableau.specs.Layout.{row_at, known_at}
 use Rattle.settle.specs.Values.{lacks}
 
@@ -56,20 +56,17 @@ module _ (ws : List ℕ) (r p w : ℕ) where
     pub scan_end : rest ≡ 0 → (i : ℕ) → i < (w + 1) * 64 → i ≢ p → lacks ws r i ≡ false
     scan_end z i l = on 64 (omega arith) (left_end (lack_word ws r w) s.seen rest s.ones z) i (omega arith)
 
-    module _ (pos : 0 < rest) where
-      top_lt : count_leading_zeros 64 rest < 64
-      top_lt = zeros_lt rest pos s.ones.fits
+    module _ (i after : ℕ) (t : Top rest i after) where
+      pub scan_top : lacks ws r (w * 64 + i) ≡ true
+      scan_top = lack_bit ws r w i t.place ∙ left_top (lack_word ws r w) s.seen rest i after s.ones t
 
-      pub scan_top : lacks ws r (w * 64 + count_leading_zeros 64 rest) ≡ true
-      scan_top = lack_bit ws r w (count_leading_zeros 64 rest) top_lt ∙ left_top (lack_word ws r w) s.seen rest s.ones pos
+      pub scan_under : (j : ℕ) → j < w * 64 + i → j ≢ p → lacks ws r j ≡ false
+      scan_under = on i (omega (arith, t.place)) (left_skip (lack_word ws r w) s.seen rest i after s.ones t)
 
-      pub scan_under : (i : ℕ) → i < w * 64 + count_leading_zeros 64 rest → i ≢ p → lacks ws r i ≡ false
-      scan_under = on (count_leading_zeros 64 rest) (omega (arith, top_lt)) (left_skip (lack_word ws r w) s.seen rest s.ones pos)
-
-      pub scan_next : w * 64 + count_leading_zeros 64 rest ≡ p → Scan ws r p w (bit_xor rest (1 * 2 ^ (63 - count_leading_zeros 64 rest) % 2 ^ 64))
+      pub scan_next : w * 64 + i ≡ p → Scan ws r p w after
       scan_next e =
           record {
-            seen = suc (count_leading_zeros 64 rest);
-            ones = left_next (lack_word ws r w) s.seen rest s.ones pos;
-            passed = λ i l d. scan_under i (omega (arith, d, e)) d;
+            seen = suc i;
+            ones = left_next (lack_word ws r w) s.seen rest i after s.ones t;
+            passed = λ j l d. scan_under j (omega (arith, d, e)) d;
           }

@@ -1,7 +1,6 @@
 -- THE PASS THAT TURNS ROWS: what it keeps.
---   turned_idle                  a row without variable u is turned as it is
 --   turned_else, turned_after    a row that is turned keeps the words of all others, and so of those after it
---   pivot_stays                  row p keeps its variables while rows are turned
+--   turned_idle                  after others, of which row p keeps its variables, a row without variable u is turned as it is
 --   partner_has                  row p has the variable that was chosen for it, also after a home and an entry of the record have been set
 -- Assumes nothing.
 use mathlib.Core.Path.{◌≡◌, refl, sym, ap, ◌∙◌}
@@ -20,12 +19,9 @@ use Rattle.tableau.specs.Layout.{max_vars, max_rows, row_size, row_at, last_at, 
 use Rattle.tableau.specs.Buffer.{Chain}
 use Rattle.settle.specs.Values.{lacks}
 use Rattle.settle.proofs.Blocks.{settled_rows}
-use Rattle.exchange.specs.Steps.{Partner, pointed, RowTurned, idle, added, centre}
+use Rattle.exchange.specs.Steps.{IsPartner, pointed, RowTurned, idle, added, centre}
 
 -- ---- rows that are turned
-pub turned_idle : (e p u : ℕ) (ws : List ℕ) → bit_at ws (row_at p) (u - 1) ≡ true → (r : ℕ) (w : List ℕ) → r < e → bit_at ws (row_at r) (u - 1) ≡ false → bit_at w (row_at r) (u - 1) ≡ false → RowTurned p u r w w
-turned_idle e p u ws has r w l f g = idle (λ z. true≢false (sym has ∙ ap (λ (y : ℕ). bit_at ws (row_at y) (u - 1)) (sym z) ∙ f)) g refl
-
 module _ (p u : ℕ) where
   pub turned_else : (r : ℕ) (ws w : List ℕ) → RowTurned p u r ws w → (i : ℕ) → i < known_at → (i < row_at r) ⊎ (row_at r + row_size ≤ i) → get_or w i 0 ≡ get_or ws i 0
   turned_else r ws w (idle n h e) i l o = ap (λ (x : List ℕ). get_or x i 0) e
@@ -50,18 +46,25 @@ module _ (p u : ℕ) where
     pivot_word r ws w (centre e s) =
         settled_rows r (pointed r u ws) w s (row_at p + j / 64) (omega arith) ∙ get_or-set_other ws (last_at r) (row_at p + j / 64) _ 0 (λ (x : row_at p + j / 64 ≡ last_at r). absurd (omega arith))
 
-    pub pivot_stays : (k : ℕ) (z w : List ℕ) → Chain (RowTurned p u) k z w → bit_at w (row_at p) j ≡ bit_at z (row_at p) j
+    pivot_stays : (k : ℕ) (z w : List ℕ) → Chain (RowTurned p u) k z w → bit_at w (row_at p) j ≡ bit_at z (row_at p) j
     pivot_stays zero z w c = ap (λ (x : List ℕ). bit_at x (row_at p) j) c
     pivot_stays (suc k) z w c = bit_same c.0 w (row_at p) (row_at p) j (pivot_word k c.0 w c.3) ∙ pivot_stays k z c.0 c.2
+
+  -- a row that has not the variable, as row p has, is turned as it is
+  pub turned_idle : p < max_rows → u - 1 < max_vars → (r : ℕ) (z w : List ℕ)
+      → bit_at z (row_at p) (u - 1) ≡ true → Chain (RowTurned p u) r z w → bit_at w (row_at r) (u - 1) ≡ false → RowTurned p u r w w
+  turned_idle lp lu r z w has c f = idle (λ h. true≢false (sym still ∙ ap (λ (y : ℕ). bit_at w (row_at y) (u - 1)) (sym h) ∙ f)) f refl
+    where
+      still : bit_at w (row_at p) (u - 1) ≡ true
+      still = pivot_stays lp (u - 1) lu r z w c ∙ has
 
 -- ---- the variable that was chosen
 lacks_has : (ws : List ℕ) (r i : ℕ) → lacks ws r i ≡ true → bit_at ws (row_at r) i ≡ true
 unfolding lacks
 lacks_has ws r i h = (and_both (bit_at ws (row_at r) i) (not (bit_at ws known_at i)) h).0
 
-pub partner_has : (ws w : List ℕ) (p q u : ℕ) → p < max_rows → 0 < u → Partner ws p q u → ((i : ℕ) → i < record_at → get_or w i 0 ≡ get_or ws i 0) → bit_at w (row_at p) (u - 1) ≡ true
-partner_has ws w p q u lp pos h rest =
-    let e : u ≡ suc (u - 1) = omega arith in
-    let f = h.some (u - 1) e in
-    let l = f.0 in
-    bit_same ws w (row_at p) (row_at p) (u - 1) (rest (row_at p + (u - 1) / 64) (omega arith)) ∙ lacks_has ws p (u - 1) f.2
+pub partner_has : (ws w : List ℕ) (p q u : ℕ) → p < max_rows → IsPartner ws p q u → ((i : ℕ) → i < record_at → get_or w i 0 ≡ get_or ws i 0) → bit_at w (row_at p) (u - 1) ≡ true
+partner_has ws w p q u lp h rest =
+    let lo = h.first in
+    let hi = h.last in
+    bit_same ws w (row_at p) (row_at p) (u - 1) (rest (row_at p + (u - 1) / 64) (omega arith)) ∙ lacks_has ws p (u - 1) h.free

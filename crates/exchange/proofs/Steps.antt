@@ -1,17 +1,17 @@
 -- WHAT A LITERAL DOES TO A STATE OF THE MODULE.
---   partner_high, beq_other              facts that the code's tests give
---   stuck_still                          a literal that is stuck changes nothing
+--   beq_other                            a fact that the code's test gives
 --   known_bit, truth_bit                 the value of a variable, as it is read
 --   FreeAt                               a state of the module in which v has no value and is not basic
 --   step_made                            the answer to a literal is the definitions', and the state afterwards is one of the module
 -- Assumes nothing.
-use mathlib.Core.Path.{◌≡◌, refl, sym, ap, ap₂, ◌∙◌}
+use mathlib.Core.Path.{◌≡◌, sym, ap, ap₂, ◌∙◌}
 use mathlib.Core.List.{List}
 use mathlib.Core.Bool.{Bool, true, false, not, beq, ◌&&◌}
 use mathlib.Core.Logic.{◌⊎◌, inl, inr, ◌≢◌}
-use Prim.Native.Nat.{ℕ, zero, suc, ◌+◌, ◌-◌, ◌/◌, ◌<◌, ◌≤◌}
+use Prim.Native.Nat.{ℕ, suc, ◌+◌, ◌-◌, ◌/◌, ◌<◌, ◌≤◌}
 use native.Mathlib.Omega.{arith}
 use lib.ListN.{length, get_or}
+use Rattle.std.specs.Prelude.{None}
 use Rattle.gf2.specs.Rows.{Var, Row}
 use Rattle.gf2.specs.Answers.{variable, value}
 use Rattle.gf2.proofs.Search.{and_both, not_true, beq_same}
@@ -33,21 +33,14 @@ use Rattle.settle.specs.Values.{lacks, Followed}
 use Rattle.settle.proofs.Follows.{follow_made}
 use Rattle.exchange.specs.declared.Offer.{Offer}
 use Rattle.exchange.specs.declared.Offer.TheVariants as offer
-use Rattle.exchange.specs.Steps.{Partner, Found, Exchanged, Took, followed, turned, stuck, Stepped, OfferOutcome}
+use Rattle.exchange.specs.Steps.{IsPartner, Partner, FoundAt, Found, Exchanged, Took, followed, turned, stuck, Stepped, OfferOutcome}
 use Rattle.exchange.proofs.Exchanges.{exchange_rows, exchange_rest, exchange_homes}
 use Rattle.exchange.proofs.Finds.{found_none}
 use Rattle.exchange.proofs.Turns.{Apart, turned_apart}
 
-pub partner_high : (ws : List ℕ) (r p x : ℕ) → Partner ws r p x → x ≤ max_vars
-partner_high ws r p zero q = omega arith
-partner_high ws r p (suc i) q = (q.some i refl).0
-
 -- `==` of two bools
 pub beq_other : (a b : Bool) → beq a b ≡ false → a ≢ b
 beq_other a b h e = clash (beq a b) (beq_same a b e) h
-
-pub stuck_still : (k d code : ℕ) (ws w : List ℕ) → Took k d code ws w false → w ≡ ws
-stuck_still k d code ws w (stuck p l f q z) = z
 
 -- ---- a variable without a value is made non-basic
 pub record FreeAt (ws : List ℕ) (n m : ℕ) (Sheet : ℕ → Row) (kept : ℕ → Bool) (d : ℕ) (x : ℕ → ℕ) (y : ℕ → Bool) (k v : ℕ) : Type 0 where
@@ -72,108 +65,100 @@ module _ (n m : ℕ) (Sheet : ℕ → Row) (kept : ℕ → Bool) (d : ℕ) (x : 
     own_bits : (r : ℕ) → r < k → bit_at ws (row_at r) (v - 1) ≡ s.R r v
     own_bits r l = let a = mv.low in let b = mv.high in let c = s.vars in s.rows.coefs r l (v - 1) (omega arith) ∙ ap (s.R r) (bit-of v mv.low)
 
-    free_at : Found ws k v k → FreeAt ws n m Sheet kept d x y k v
+    free_at : Found ws k v None → FreeAt ws n m Sheet kept d x y k v
     free_at f = record { at = s; nonbasic = found_none k v ws s.β s.homes s.rows.basic f; unknown = un }
 
-    module _ (p : ℕ) (l : p < k) (f : Found ws k v p) where
+    module _ (p : ℕ) (f : FoundAt ws k v p) where
       here : s.β p ≡ v
-      here = sym (s.rows.basic p l) ∙ (f.here l).1
+      here = sym (s.rows.basic p f.below) ∙ f.basic
 
       in_row : bit_at ws (row_at p) (v - 1) ≡ true
-      in_row = own_bits p l ∙ ap (s.R p) (sym here) ∙ s.made.built.tableau.own p l
+      in_row = own_bits p f.below ∙ ap (s.R p) (sym here) ∙ s.made.built.tableau.own p f.below
 
       in_no_other : (r : ℕ) → r < k → r ≢ p → bit_at ws (row_at r) (v - 1) ≡ false
-      in_no_other r lr e = own_bits r lr ∙ ap (s.R r) (sym here) ∙ s.made.built.tableau.alone p r l lr (λ z. e (sym z))
+      in_no_other r lr e = own_bits r lr ∙ ap (s.R r) (sym here) ∙ s.made.built.tableau.alone p r f.below lr (λ z. e (sym z))
 
-      never_stuck : Partner ws p (v - 1) 0 → ⊥
+      never_stuck : Partner ws p (v - 1) None → ⊥
       never_stuck q =
-          let o = partner n m Sheet kept d x y k s.R s.β s.S s.known s.truth s.made p l (ap s.known here ∙ un) in
+          let o = partner n m Sheet kept d x y k s.R s.β s.S s.known s.truth s.made p f.below (ap s.known here ∙ un) in
           let lo = o.1.low in
           let hi = o.1.high in
           let c = s.vars in
           let e = bit-of o.0 lo in
           let i : o.0 - 1 < max_vars = omega arith in
           clash (lacks ws p (o.0 - 1))
-          (lacks_is p l (o.0 - 1) i ∙ rw (ap (s.R p) e ∙ o.2, ap s.known e ∙ o.4))
-          (q.none refl (o.0 - 1) i (λ z. o.3 (sym e ∙ ap suc z ∙ bit-of v mv.low ∙ sym here)))
+          (lacks_is p f.below (o.0 - 1) i ∙ rw (ap (s.R p) e ∙ o.2, ap s.known e ∙ o.4))
+          (q (o.0 - 1) i (λ z. o.3 (sym e ∙ ap suc z ∙ bit-of v mv.low ∙ sym here)))
 
-      moved_at : (u : ℕ) (z w : List ℕ) → length w ≡ length ws → Partner ws p (v - 1) u → 0 < u → Homed u p ws z → Exchanged k p u z w → FreeAt w n m Sheet kept d x y k v
-      moved_at u z w len q pos home ex = go (u - 1) (bit-of u pos)
+      moved_at : (u : ℕ) (z w : List ℕ) → length w ≡ length ws → IsPartner ws p (v - 1) u → Homed u p ws z → Exchanged k p u z w → FreeAt w n m Sheet kept d x y k v
+      moved_at u z w len q home ex =
+          record { at = after; nonbasic = rw here at (exchange_frees n m Sheet kept d x y k s.R s.β s.S s.known s.truth s.made p u f.below mu ru du ku kp); unknown = un }
         where
-          go : (i : ℕ) → suc i ≡ u → FreeAt w n m Sheet kept d x y k v
-          go i e = record { at = after; nonbasic = rw here at (exchange_frees n m Sheet kept d x y k s.R s.β s.S s.known s.truth s.made p u l mu ru du ku kp); unknown = un }
+          e : suc (u - 1) ≡ u
+          e = bit-of u q.first
+
+          parts : (s.R p (suc (u - 1)) ≡ true) × (not (s.known (suc (u - 1))) ≡ true)
+          parts = let lo = q.first in let hi = q.last in and_both _ _ (sym (lacks_is p f.below (u - 1) (omega arith)) ∙ q.free)
+
+          ru : s.R p u ≡ true
+          ru = rw e at parts.0
+
+          ku : s.known u ≡ false
+          ku = rw e at (not_true _ parts.1)
+
+          kp : s.known (s.β p) ≡ false
+          kp = ap s.known here ∙ un
+
+          du : u ≢ s.β p
+          du g = q.other (ap (λ (t : ℕ). t - 1) (g ∙ here))
+
+          mu : Var n u
+          mu = record { low = q.first; high = inside (bool_dec (s.R p u)) }
             where
-              o : (i < max_vars) × (i ≢ v - 1) × (lacks ws p i ≡ true)
-              o = q.some i (sym e)
-
-              parts : (s.R p (suc i) ≡ true) × (not (s.known (suc i)) ≡ true)
-              parts = and_both _ _ (sym (lacks_is p l i o.0) ∙ o.2)
-
-              ru : s.R p u ≡ true
-              ru = ap (s.R p) (sym e) ∙ parts.0
-
-              ku : s.known u ≡ false
-              ku = ap s.known (sym e) ∙ not_true _ parts.1
-
-              kp : s.known (s.β p) ≡ false
-              kp = ap s.known here ∙ un
-
-              du : u ≢ s.β p
-              du g = o.1 (same_bit (g ∙ here))
+              inside : (s.R p u ≡ true) ⊎ (s.R p u ≡ false) → u ≤ n
+              inside h = le u n (λ g. clash (s.R p u) ru (s.rows.clean p f.below u g))
                 where
-                  same_bit : u ≡ v → i ≡ v - 1
-                  same_bit z = omega arith
+                  le : (a b : ℕ) → (b < a → ⊥) → a ≤ b
+                  le a b g = omega (arith, g)
 
-              mu : Var n u
-              mu = record { low = pos; high = inside (bool_dec (s.R p u)) }
-                where
-                  inside : (s.R p u ≡ true) ⊎ (s.R p u ≡ false) → u ≤ n
-                  inside h = le u n (λ g. clash (s.R p u) ru (s.rows.clean p l u g))
-                    where
-                      le : (a b : ℕ) → (b < a → ⊥) → a ≤ b
-                      le a b g = omega (arith, g)
+          rows : RowsRead n k z s.R s.β s.S
+          rows = rows_stay n k ws z s.R s.β s.S s.few (λ j h. home.rest j (omega arith)) s.rows
 
-              upper : u ≤ max_vars
-              upper = let h = o.0 in omega arith
+          big : size ≤ length z
+          big = let h = s.room in let g = home.len in omega arith
 
-              rows : RowsRead n k z s.R s.β s.S
-              rows = rows_stay n k ws z s.R s.β s.S s.few (λ j h. home.rest j (omega arith)) s.rows
+          rest : (j : ℕ) → known_at ≤ j → get_or w j 0 ≡ get_or z j 0
+          rest = exchange_rest n k z s.R s.β s.S p u s.few f.below q.first q.last rows w big ex
 
-              big : size ≤ length z
-              big = let h = s.room in let g = home.len in omega arith
+          -- a row but p has another basic variable than u, which row p has
+          at_home : (r : ℕ) → r < k → r ≢ p → home_at z (basic_at z r) ≡ r
+          at_home r lr e =
+              let c = s.few in
+              let b = s.rows.basic r lr in
+              let lo = (s.made.built.tableau.var r lr).low in
+              homed_other u p ws z home r (omega arith) (omega arith) (λ g. clash (s.R p u) ru (ap (s.R p) (sym g ∙ b) ∙ s.made.built.tableau.alone r p lr f.below e)) (s.homes r lr)
 
-              rest : (j : ℕ) → known_at ≤ j → get_or w j 0 ≡ get_or z j 0
-              rest = exchange_rest n k z s.R s.β s.S p u s.few l pos upper rows w big ex
-
-              -- a row but p has another basic variable than u, which row p has
-              at_home : (r : ℕ) → r < k → r ≢ p → home_at z (basic_at z r) ≡ r
-              at_home r lr e =
-                  let c = s.few in
-                  let b = s.rows.basic r lr in
-                  let lo = (s.made.built.tableau.var r lr).low in
-                  homed_other u p ws z home r (omega arith) (omega arith) (λ g. clash (s.R p u) ru (ap (s.R p) (sym g ∙ b) ∙ s.made.built.tableau.alone r p lr l e)) (s.homes r lr)
-
-              after : MadeAt w n m Sheet kept d x y k
-              after =
-                  record {
-                    R = pivot s.R p u;
-                    β = repoint s.β p u;
-                    S = passed s.S s.R p u;
-                    known = s.known;
-                    truth = s.truth;
-                    vars = s.vars;
-                    few = s.few;
-                    room = let h = s.room in omega arith;
-                    rows = exchange_rows n k z s.R s.β s.S p u s.few l pos upper rows w big ex;
-                    values = record {
-                      within = s.values.within;
-                      knows = λ j h. bit_same ws w known_at known_at j (rest (known_at + j / 64) (omega arith) ∙ home.rest (known_at + j / 64) (omega arith)) ∙ s.values.knows j h;
-                      trues = λ j h. bit_same ws w truth_at truth_at j (rest (truth_at + j / 64) (omega arith) ∙ home.rest (truth_at + j / 64) (omega arith)) ∙ s.values.trues j h;
-                    };
-                    lits = lits_stay d ws w x y (λ j h. entry_stay z w (λ i g. rest i (omega arith)) j ∙ home.entries j) s.lits;
-                    homes = exchange_homes n k z s.R s.β s.S p u s.few l pos upper rows w big ex home.here at_home;
-                    made = exchange_made n m Sheet kept d x y k s.R s.β s.S s.known s.truth s.made p u l mu ru du ku kp;
-                  }
+          after : MadeAt w n m Sheet kept d x y k
+          after =
+              record {
+                R = pivot s.R p u;
+                β = repoint s.β p u;
+                S = passed s.S s.R p u;
+                known = s.known;
+                truth = s.truth;
+                vars = s.vars;
+                few = s.few;
+                room = let h = s.room in omega arith;
+                rows = exchange_rows n k z s.R s.β s.S p u s.few f.below q.first q.last rows w big ex;
+                values = record {
+                  within = s.values.within;
+                  knows = λ j h. bit_same ws w known_at known_at j (rest (known_at + j / 64) (omega arith) ∙ home.rest (known_at + j / 64) (omega arith)) ∙ s.values.knows j h;
+                  trues = λ j h. bit_same ws w truth_at truth_at j (rest (truth_at + j / 64) (omega arith) ∙ home.rest (truth_at + j / 64) (omega arith)) ∙ s.values.trues j h;
+                };
+                lits = lits_stay d ws w x y (λ j h. entry_stay z w (λ i g. rest i (omega arith)) j ∙ home.entries j) s.lits;
+                homes = exchange_homes n k z s.R s.β s.S p u s.few f.below q.first q.last rows w big ex home.here at_home;
+                made = exchange_made n m Sheet kept d x y k s.R s.β s.S s.known s.truth s.made p u f.below mu ru du ku kp;
+              }
 
 -- ---- a literal is taken
 module _ (n m : ℕ) (Sheet : ℕ → Row) (kept : ℕ → Bool) (d : ℕ) (x : ℕ → ℕ) (y : ℕ → Bool) (k : ℕ) (ws : List ℕ) (code : ℕ) where
@@ -242,8 +227,8 @@ module _ (n m : ℕ) (Sheet : ℕ → Row) (kept : ℕ → Bool) (d : ℕ) (x : 
   step_made w offer.Conflict len (z, e, f) =
       (facts.1 (sym (known_bit n m Sheet kept d x y k ws s (variable code) mv) ∙ e) (λ g. f (truth_bit n m Sheet kept d x y k ws s (variable code) mv ∙ g)), rw z s)
   step_made w offer.Stuck len (z, e, inl f) = never_full (sym (known_bit n m Sheet kept d x y k ws s (variable code) mv) ∙ e) f
-  step_made w offer.Stuck len (z, e, inr (stuck p l f q g)) =
-      never_stuck n m Sheet kept d x y k ws s (variable code) mv (sym (known_bit n m Sheet kept d x y k ws s (variable code) mv) ∙ e) p l f q
+  step_made w offer.Stuck len (z, e, inr (stuck p f q g)) =
+      never_stuck n m Sheet kept d x y k ws s (variable code) mv (sym (known_bit n m Sheet kept d x y k ws s (variable code) mv) ∙ e) p f q
   step_made w offer.Taken len (e, l, f) = (facts.2 un, facts.3 un, go f)
     where
       un : s.known (variable code) ≡ false
@@ -251,8 +236,8 @@ module _ (n m : ℕ) (Sheet : ℕ → Row) (kept : ℕ → Bool) (d : ℕ) (x : 
 
       go : Took k d code ws w true → MadeAt w n m Sheet kept (suc d) (with_at x d (variable code)) (with_bool y d (value code)) k
       go (followed v f rc fo) = take-made n m Sheet kept d x y k ws code mv (free_at n m Sheet kept d x y k ws s (variable code) mv un f) v w rc len fo
-      go (turned p u z v l f q pos home rc tu) =
-          take-made n m Sheet kept d x y k a.exchanged code mv (moved_at n m Sheet kept d x y k ws s (variable code) mv un p l f u z a.exchanged (a.long ∙ home.len) q pos home a.move) a.recorded w a.entry (len ∙ sym (a.long ∙ home.len)) a.values
+      go (turned p u z v f q home rc tu) =
+          take-made n m Sheet kept d x y k a.exchanged code mv (moved_at n m Sheet kept d x y k ws s (variable code) mv un p f u z a.exchanged (a.long ∙ home.len) q home a.move) a.recorded w a.entry (len ∙ sym (a.long ∙ home.len)) a.values
         where
           lo : 0 < variable code
           lo = mv.low
@@ -266,5 +251,5 @@ module _ (n m : ℕ) (Sheet : ℕ → Row) (kept : ℕ → Bool) (d : ℕ) (x : 
 
           a : Apart k p u (variable code - 1) (value code) d code z w
           a =
-              turned_apart k p u (variable code - 1) (value code) d code z v w s.few l (partner_high ws p _ u q) (omega (arith, lo, hi)) (let b = s.room in let g = home.len in omega arith) (len ∙ sym home.len)
-              (λ r lr e. same_row r lr ∙ in_no_other n m Sheet kept d x y k ws s (variable code) mv un p l f r lr e) (same_row p l ∙ in_row n m Sheet kept d x y k ws s (variable code) mv un p l f) rc tu
+              turned_apart k p u (variable code - 1) (value code) d code z v w s.few f.below q.last (omega (arith, lo, hi)) (let b = s.room in let g = home.len in omega arith) (len ∙ sym home.len)
+              (λ r lr e. same_row r lr ∙ in_no_other n m Sheet kept d x y k ws s (variable code) mv un p f r lr e) (same_row p f.below ∙ in_row n m Sheet kept d x y k ws s (variable code) mv un p f) rc tu

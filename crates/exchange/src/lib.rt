@@ -2,70 +2,67 @@
 #![tactic(auto)]
 
 ghost use Rattle.std.specs.Prelude.{true, ◌≡◌, ◌+◌, ◌*◌, ◌-◌, ◌<◌, ◌≤◌, length};
+ghost use Rattle.gf2.specs.Answers.{code};
 ghost use Rattle.words.specs.Words.{bit_at};
 ghost use Rattle.tableau.specs.Layout.{max_vars, max_rows, max_taken, row_at, size};
-ghost use Rattle.tableau.specs.Buffer.{Span};
 ghost use Rattle.exchange.specs.Steps.{Partner, Found, pointed, RowTurned, Turned, Took, Stepped};
 
-use settle::{follow, put, settle_row};
-use tableau::{
-    COEF_WORDS, KNOWN, LAST, ROW, TRUTH, add_row, block_end, column, home, set_entry, set_home,
-};
-use words::{bit, without};
+use settle::{follow, for_rows_with, put, settle_row};
+use tableau::{COEF_WORDS, KNOWN, LAST, ROW, TRUTH, add_row, home, set_entry, set_home};
+use words::{Literal, Ones, Variable, bit, without};
 
-// The lowest variable of row r that has no value and is not v, or 0. On a state of the module, where v is basic in row r, no other variable of the row is basic.
-fn partner(work: &[u64], r: usize, v: usize) -> usize
-    requires { (size ≤ length work.now) × (r < max_rows) × (0 < v) × (v ≤ max_vars) }
-    ensures { Partner work.now r (v - 1) result }
+// The lowest variable of row r that has no value and is not v. On a state of the module, where v is basic in row r, no other variable of the row is basic.
+fn partner(work: &[u64], r: usize, v: Variable) -> Option<Variable>
+    requires { (size ≤ length work.now) × (r < max_rows) }
+    ensures { Partner work.now r (v.number - 1) result }
 {
     let a = ROW * r;
-    let mut found = 0;
-    let mut w = 0;
-    'scan: while w < COEF_WORDS {
+    let mut found = None;
+    'scan: for w in 0..COEF_WORDS {
         // The variables of this word that have no value, the lowest at the top.
-        let mut rest = without(work[a + w], work[KNOWN + w]);
-        while rest != 0 {
-            let i = u64::leading_zeros(rest) as usize;
+        for i in Ones(without(work[a + w], work[KNOWN + w])) {
             let u = w * 64 + i + 1;
-            if u != v {
-                found = u;
+            if u != v.number {
+                found = Some(Variable { number: u });
                 break 'scan;
             }
-            rest = rest ^ (1 << (63 - i));
         }
-        w += 1;
     }
     found
 }
 
-// The home of v, if it is below k and v is basic there, else k. On a state of the module that is the row whose basic variable is v, if there is one.
-pub fn find(work: &[u64], k: usize, v: usize) -> usize
-    requires { (size ≤ length work.now) × (k ≤ max_rows) × (0 < v) × (v ≤ max_vars) }
-    ensures { Found work.now k v result }
+// The home of v, if it is below k and v is basic there. On a state of the module that is the row whose basic variable is v, if there is one.
+pub fn find(work: &[u64], k: usize, v: Variable) -> Option<usize>
+    requires { (size ≤ length work.now) × (k ≤ max_rows) }
+    ensures { Found work.now k v.number result }
 {
     let x = home(work, v);
     if x >= k as u64 {
-        return k;
+        return None;
     }
     let r = x as usize;
     let basic = work[ROW * r + LAST] / 2;
-    if basic == v as u64 { r } else { k }
+    if basic == v.number as u64 {
+        Some(r)
+    } else {
+        None
+    }
 }
 
 // Variable u is the basic variable of row p.
-pub fn point(work: &mut [u64], p: usize, u: usize)
-    requires { (size ≤ length work.old) × (p < max_rows) × (u ≤ max_vars) }
-    ensures { work.new ≡ pointed p u work.old }
+pub fn point(work: &mut [u64], p: usize, u: Variable)
+    requires { (size ≤ length work.old) × (p < max_rows) }
+    ensures { work.new ≡ pointed p u.number work.old }
 {
     let at = ROW * p + LAST;
     let x = work[at] % 2;
-    work[at] = 2 * (u as u64) + x;
+    work[at] = 2 * (u.number as u64) + x;
 }
 
 // Row r has the variable u. Row p is added into it, or u becomes its basic variable if it is row p; then row r is settled.
-fn turn_row(work: &mut [u64], p: usize, u: usize, r: usize)
-    requires { (size ≤ length work.old) × (p < max_rows) × (r < max_rows) × (u ≤ max_vars) × (bit_at work.old (row_at r) (u - 1) ≡ true) }
-    ensures { RowTurned p u r work.old work.new }
+fn turn_row(work: &mut [u64], p: usize, u: Variable, r: usize)
+    requires { (size ≤ length work.old) × (p < max_rows) × (r < max_rows) × (bit_at work.old (row_at r) (u.number - 1) ≡ true) }
+    ensures { RowTurned p u.number r work.old work.new }
 {
     if r == p {
         point(work, r, u);
@@ -75,59 +72,39 @@ fn turn_row(work: &mut [u64], p: usize, u: usize, r: usize)
     settle_row(work, r);
 }
 
-// Each row from q to below e, 64 at most, that has the variable u is turned; row p, which has it, too if it is one of them.
-fn turn_block(work: &mut [u64], q: usize, e: usize, p: usize, u: usize)
-    requires { (size ≤ length work.old) × (q < e) × (e ≤ q + 64) × (q + 64 ≤ max_rows) × (p < max_rows) × (0 < u) × (u ≤ max_vars) × (bit_at work.old (row_at p) (u - 1) ≡ true) }
-    ensures { Span (RowTurned p u) q (e - q) work.old work.new }
+// The variable of l, basic in row p, gets its value, and u, which row p has, becomes basic there: an exchange and the settling in one pass,
+// since the variable of l is then in the rows that change and in no other.
+fn turn(work: &mut [u64], k: usize, p: usize, u: Variable, l: Literal)
+    requires { (size ≤ length work.old) × (k ≤ max_rows) × (p < k) × (bit_at work.old (row_at p) (u.number - 1) ≡ true) }
+    ensures { Turned k p u.number (l.variable.number - 1) l.value work.old work.new }
 {
-    let mut rest = column(work, q, e, u);
-    while rest != 0 {
-        let i = u64::leading_zeros(rest) as usize;
-        turn_row(work, p, u, q + i);
-        rest = rest ^ (1 << (63 - i));
-    }
-}
-
-// Variable v, basic in row p, gets the value b, and u, which row p has, becomes basic there: an exchange and the settling in one pass, since v is then in the rows that change and in no other.
-fn turn(work: &mut [u64], k: usize, p: usize, u: usize, v: usize, b: bool)
-    requires { (size ≤ length work.old) × (k ≤ max_rows) × (p < k) × (0 < u) × (u ≤ max_vars) × (0 < v) × (v ≤ max_vars) × (bit_at work.old (row_at p) (u - 1) ≡ true) }
-    ensures { Turned k p u (v - 1) b work.old work.new }
-{
-    put(work, v, b);
-    let mut q = 0;
-    while q < k {
-        let e = block_end(q, k);
-        turn_block(work, q, e, p, u);
-        q = e;
-    }
+    put(work, l);
+    for_rows_with(work, k, u, |work, r| turn_row(work, p, u, r));
 }
 
 // A literal whose variable has no value is taken at depth d, if it can be: whether it was. If not, nothing has changed.
-fn take(work: &mut [u64], k: usize, d: usize, code: usize) -> bool
-    requires { (size ≤ length work.old) × (k ≤ max_rows) × (d < max_taken) × (2 ≤ code) × (code < 2 * max_vars + 2) }
-    ensures { Took k d code work.old work.new result }
+fn take(work: &mut [u64], k: usize, d: usize, l: Literal) -> bool
+    requires { (size ≤ length work.old) × (k ≤ max_rows) × (d < max_taken) }
+    ensures { Took k d (code l.variable.number l.value) work.old work.new result }
 {
-    let v = code / 2;
-    let b = code % 2 == 0;
-    let p = find(work, k, v);
-    if p == k {
-        set_entry(work, d, code as u64);
-        follow(work, k, v, b);
+    let Some(p) = find(work, k, l.variable) else {
+        set_entry(work, d, l.code());
+        follow(work, k, l);
         return true;
-    }
-    let u = partner(work, p, v);
-    if u == 0 {
+    };
+    let Some(u) = partner(work, p, l.variable) else {
         return false;
-    }
+    };
     // u becomes basic in row p: that is its home.
     set_home(work, u, p);
-    set_entry(work, d, code as u64);
-    turn(work, k, p, u, v, b);
+    set_entry(work, d, l.code());
+    turn(work, k, p, u, l);
     true
 }
 
-// What a literal that is offered comes to: its variable has that value; it has the other; the literal is taken; it cannot be.
-#[derive(Clone, Copy)]
+// What a literal that is offered comes to: its variable has that value; it has the other; the literal is taken; it cannot be. Four outcomes,
+// none of which holds what the others lack.
+#[derive(Clone, Copy, Debug, PartialEq, Eq)]
 pub enum Offer {
     Held,
     Conflict,
@@ -135,14 +112,15 @@ pub enum Offer {
     Stuck,
 }
 
-// A literal is offered at depth d of n. The buffer is as it was unless the literal is taken. On a state of the module every variable has a value where n literals are taken, and no literal is stuck.
-pub fn step(work: &mut [u64], k: usize, n: usize, d: usize, code: usize) -> Offer
-    requires { (size ≤ length work.old) × (k ≤ max_rows) × (n ≤ max_taken) × (2 ≤ code) × (code < 2 * max_vars + 2) }
-    ensures { Stepped k n d code work.old work.new result }
+// A literal is offered at depth d of n. The buffer is as it was unless the literal is taken. On a state of the module every variable has a
+// value where n literals are taken, and no literal is stuck.
+pub fn step(work: &mut [u64], k: usize, n: usize, d: usize, l: Literal) -> Offer
+    requires { (size ≤ length work.old) × (k ≤ max_rows) × (n ≤ max_taken) }
+    ensures { Stepped k n d (code l.variable.number l.value) work.old work.new result }
 {
-    let v = code / 2;
-    if bit(work, KNOWN, v) {
-        if bit(work, TRUTH, v) == (code % 2 == 0) {
+    // Whether the variable has a value and which are two masks of the layout: only this place asks both of one variable.
+    if bit(work, KNOWN, l.variable) {
+        if bit(work, TRUTH, l.variable) == l.value {
             return Offer::Held;
         }
         return Offer::Conflict;
@@ -150,7 +128,7 @@ pub fn step(work: &mut [u64], k: usize, n: usize, d: usize, code: usize) -> Offe
     if d >= n {
         return Offer::Stuck;
     }
-    if take(work, k, d, code) {
+    if take(work, k, d, l) {
         Offer::Taken
     } else {
         Offer::Stuck

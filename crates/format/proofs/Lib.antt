@@ -1,4 +1,5 @@
 pub mod Accepted
+pub mod Answering
 pub mod Bytes
 pub mod Clean
 pub mod Digits

@@ -99,34 +99,32 @@ packed_rest n k left ws h e l =
     (eq-or-lt_of_le le)
 
 -- a turn of `put_row`
-pub words_step : (b b₁ b₂ : List Bool) (at pos w v : ℕ) (store : List ℕ) (base : ℕ) → pos ≡ at + 64 * w → pos ≤ length b → v ≡ get_or store (base + w) 0
-    → b₁ ≡ put_at b at (packed w (drop base store)) → b₂ ≡ put_at b₁ pos (bits_n 64 v)
-    → b₂ ≡ put_at b at (packed (w + 1) (drop base store))
+pub words_step : (b b₁ b₂ : List Bool) (at pos w v : ℕ) (ws : List ℕ) → pos ≡ at + 64 * w → pos ≤ length b → v ≡ get_or ws w 0
+    → b₁ ≡ put_at b at (packed w ws) → b₂ ≡ put_at b₁ pos (bits_n 64 v)
+    → b₂ ≡ put_at b at (packed (w + 1) ws)
 unfolding packed
-words_step b b₁ b₂ at pos w v store base ep l ev e₁ e₂ =
-    let ws : List ℕ = drop base store in
+words_step b b₁ b₂ at pos w v ws ep l ev e₁ e₂ =
     let xs : List Bool = packed w ws in
     let lx : length xs ≡ w * 64 = length-packed w ws in
     e₂
-    ∙ ap₂ (λ (r : List Bool) (x : ℕ). put_at r pos (bits_n 64 x)) e₁ (ev ∙ sym (get_or-drop base store w 0))
+    ∙ ap₂ (λ (r : List Bool) (x : ℕ). put_at r pos (bits_n 64 x)) e₁ ev
     ∙ put_at-next b at xs (bits_n 64 (get_or ws w 0)) pos (omega (arith, lx)) l
     ∙ ap (λ (k : ℕ). put_at b at (packed k ws)) (sym (add-one w))
 
 -- what `put_row` writes: k words, and the rest with the parity
-pub row_put : (b b₁ b₂ : List Bool) (at n k pos : ℕ) (store : List ℕ) (base v : ℕ) → n ≤ 512 → at + (n + 1) ≤ length b → k ≡ n / 64 → pos ≡ at + 64 * k
-    → b₁ ≡ put_at b at (packed k (drop base store))
-    → v ≡ get_or store (base + n / 64) 0 / 2 ^ (64 - n % 64) * 2 ^ 1 + get_or store (base + 8) 0 % 2 ^ 1
+pub row_put : (b b₁ b₂ : List Bool) (at n k pos : ℕ) (ws : List ℕ) (v : ℕ) → n ≤ 512 → at + (n + 1) ≤ length b → k ≡ n / 64 → pos ≡ at + 64 * k
+    → b₁ ≡ put_at b at (packed k ws)
+    → v ≡ get_or ws (n / 64) 0 / 2 ^ (64 - n % 64) * 2 ^ 1 + get_or ws 8 0 % 2 ^ 1
     → b₂ ≡ put_at b₁ pos (bits_n (n % 64 + 1) v)
-    → b₂ ≡ put_at b at (row_bits n (drop base store))
+    → b₂ ≡ put_at b at (row_bits n ws)
 unfolding row_bits
-row_put b b₁ b₂ at n k pos store base v h l ek ep e₁ ev e₂ =
-    let ws : List ℕ = drop base store in
+row_put b b₁ b₂ at n k pos ws v h l ek ep e₁ ev e₂ =
     let left : ℕ = n % 64 in
     let x : ℕ = get_or ws k 0 / 2 ^ (64 - left) in
     let p : ℕ = get_or ws 8 0 in
     let lx : length (packed k ws) ≡ k * 64 = length-packed k ws in
     let ev' : v ≡ x * 2 ^ 1 + p % 2 ^ 1 =
-    ev ∙ ap₂ (λ (y z : ℕ). y / 2 ^ (64 - left) * 2 ^ 1 + z % 2 ^ 1) (ap (λ (i : ℕ). get_or store (base + i) 0) (sym ek) ∙ sym (get_or-drop base store k 0)) (sym (get_or-drop base store 8 0)) in
+    ev ∙ ap (λ (i : ℕ). get_or ws i 0 / 2 ^ (64 - left) * 2 ^ 1 + p % 2 ^ 1) (sym ek) in
     let last : bits_n (left + 1) v ≡ bits_n left x ++ bits_n 1 p = ap (bits_n (left + 1)) ev' ∙ bits_n-cat left 1 x (mod-lt p (pow_pos 1)) ∙ ap (λ (r : List Bool). bits_n left x ++ r) (bits_n-mod 1 p) in
     e₂
     ∙ ap₂ (λ (r xs : List Bool). put_at r pos xs) e₁ last

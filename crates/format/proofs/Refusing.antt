@@ -2,7 +2,7 @@
 --   positive, accepted       no check has the number 0, so where there is no refusal, no check holds
 --   without, never           no check that holds has the number k, so no refusal has it
 --   append-some, append-none  more checks after these: they are reached only where none of these holds
---   either_.., none_either   one of two conditions holds; neither does
+--   none_either              neither of two conditions holds
 -- Assumes nothing.
 use mathlib.Core.Path.{◌≡◌, refl, ◌∙◌}
 use mathlib.Core.Bool.{Bool, true, false, not, ◌||◌, ◌&&◌, true≢false, false≢true, cond}
@@ -59,13 +59,6 @@ append-none (c ∷ cs) ds p h = go (append-none cs ds (and_both (ltb 0 c.number)
     go : (refusal cs ≡ 0 → refusal (cs ++ ds) ≡ refusal ds) → (b : Bool) → cond b c.number (refusal cs) ≡ 0 → cond b c.number (refusal (cs ++ ds)) ≡ refusal ds
     go more true e = let l = ltb-true 0 c.number (and_both (ltb 0 c.number) (positive cs) p).0 in absurd (omega arith)
     go more false e = more e
-
-pub either_first : (a b : Bool) → a ≡ true → (a || b) ≡ true
-either_first a b e = rw e
-
-pub either_second : (a b : Bool) → b ≡ true → (a || b) ≡ true
-either_second true b e = refl
-either_second false b e = e
 
 pub none_either : (a b : Bool) → (a || b) ≡ false → (a ≡ false) × (b ≡ false)
 none_either true b h = absurd (true≢false h)

@@ -13,11 +13,13 @@ use Rattle.gf2.specs.Rows.{Var}
 use Rattle.gf2.specs.Answers as answers
 use Rattle.gf2.specs.Answers.{variable, Literal, Position, Implied, NoValue, Unexplained}
 use Rattle.gf2.specs.History.{at_end}
+use Rattle.std.specs.Prelude.{Result, Ok}
+use Rattle.format.specs.Refusals.{IsRefused}
+use Rattle.format.specs.declared.Refusal.{Refusal}
 use Rattle.judge.specs.declared.Header.{Header}
 use Rattle.parity.specs.declared.Assuming.{Assuming}
 use Rattle.parity.specs.declared.Assuming.TheVariants.{Held, Conflict, Taken}
-use Rattle.parity.specs.declared.Explaining.{Explaining}
-use Rattle.parity.specs.declared.Explaining.TheVariants.{ExplainRefused}
+use Rattle.parity.specs.declared.Explained.{Explained}
 use Rattle.parity.specs.Promises.{Stands, AssumePromise, BackPromise, ExplainPromise}
 use Rattle.history.specs.Calls.{Calls, events}
 use Rattle.history.proofs.Demand.{demand_stands}
@@ -28,9 +30,11 @@ module _ {h₀ h : Header} {work₀ work : List ℕ} (shut : h₀.«open» ≡ 1
   st : Stands h work p
   st = demand_stands shut cs p e
 
-  pub assume_after : (literals : List ℕ) (code : ℕ) → p.n ≤ length literals → Literal p.n code → (h' : Header) (answer : Assuming) (work' literals' : List ℕ)
+  pub assume_after : (literals : List ℕ) (code : ℕ) → p.n ≤ length literals → Literal p.n code
+      → (h' : Header) (answer : Result Assuming Refusal) (work' literals' : List ℕ)
       → AssumePromise h work literals code h' answer work' literals'
-      → ((answer ≡ Held) ↔ Implied p code) × ((answer ≡ Conflict (variable code)) ↔ answers.Conflict p code) × (((x : ℕ) × (answer ≡ Taken x)) ↔ NoValue p code)
+      → ((answer ≡ Ok Held) ↔ Implied p code) × ((answer ≡ Ok (Conflict (variable code))) ↔ answers.Conflict p code)
+      × (((x : ℕ) × (answer ≡ Ok (Taken x))) ↔ NoValue p code)
   assume_after literals code room l h' answer work' literals' promise =
       let z = (assume_accepted h work p st literals code).1 (room, l) in (
         held_exactly h work literals code z p st h' answer work' literals' promise,
@@ -38,8 +42,9 @@ module _ {h₀ h : Header} {work₀ work : List ℕ} (shut : h₀.«open» ≡ 1
         taken_exactly h work literals code z p st h' answer work' literals' promise,
       )
 
-  pub explain_after : (clause rows : List ℕ) (v : ℕ) → p.n ≤ length clause → length p.rows ≤ length rows → Var p.n v → (answer : Explaining) (clause' rows' : List ℕ)
-      → ExplainPromise h work clause rows v answer clause' rows' → (answer ≡ ExplainRefused 10) ↔ Unexplained p v
+  pub explain_after : (clause rows : List ℕ) (v : ℕ) → p.n ≤ length clause → length p.rows ≤ length rows → Var p.n v
+      → (answer : Result Explained Refusal) (clause' rows' : List ℕ)
+      → ExplainPromise h work clause rows v answer clause' rows' → IsRefused answer 10 ↔ Unexplained p v
   explain_after clause rows v codes numbers x answer clause' rows' promise =
       unexplained_exactly h work clause rows v ((explain_accepted h work p st clause rows v).1 (codes, numbers, x)) p st answer clause' rows' promise
 

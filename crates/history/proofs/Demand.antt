@@ -1,5 +1,5 @@
 -- DEMAND 3, from the promises alone: after any calls, each answer is what the definitions give for what is open, and the state matches what is then open.
---   refused_or       a refusal, or none; some_one, none_some: an answer, or none
+--   refused_or       a refusal, or none; refused_is, refused_same: the refusal of a number; some_one, none_some: an answer, or none
 --   refused_right    the refusals of a list of checks are right
 --   open_step ..     one call
 --   demand           any list of calls
@@ -21,7 +21,10 @@ use Rattle.gf2.specs.History.{assumes, refused, after, Right, Runs, at_end}
 use Rattle.gf2.proofs.Literals.{of_range}
 use Rattle.gf2.proofs.Unique.{kept_unique}
 use Rattle.gf2.proofs.Chosen.{placed_length}
-use Rattle.format.specs.Refusals.{Check, refusal}
+use Rattle.std.specs.Prelude.{Result, Ok, Err}
+use Rattle.format.specs.Refusals.{Check, refusal, number, IsRefused}
+use Rattle.format.specs.declared.Refusal.{Refusal}
+use Rattle.format.proofs.Answering.{number_same}
 use Rattle.format.specs.Sheet.{n_of, sheet_rows}
 use Rattle.format.proofs.Refusing.{without, never}
 use Rattle.linear.proofs.Joined.{codes_length}
@@ -32,11 +35,10 @@ use Rattle.judge.specs.Checks.{Fit, assume_checks, back_checks, explain_checks}
 use Rattle.judge.proofs.LineEleven.{is_fit}
 use Rattle.judge.proofs.Judged.{back_judged, assume_judged, explain_judged}
 use Rattle.parity.specs.declared.Opening.{Opening}
-use Rattle.parity.specs.declared.Opening.TheVariants.{OpenRefused, Unsatisfiable, Opened}
+use Rattle.parity.specs.declared.Opening.TheVariants.{Unsatisfiable, Opened}
 use Rattle.parity.specs.declared.Assuming.{Assuming}
-use Rattle.parity.specs.declared.Assuming.TheVariants.{AssumeRefused, Held, Conflict, Taken}
-use Rattle.parity.specs.declared.Explaining.{Explaining}
-use Rattle.parity.specs.declared.Explaining.TheVariants.{ExplainRefused, Explained}
+use Rattle.parity.specs.declared.Assuming.TheVariants.{Held, Conflict, Taken}
+use Rattle.parity.specs.declared.Explained.{Explained}
 use Rattle.parity.specs.Promises.{Stands, nothing_open, OpenPromise, OpenDone, open_checks, AssumePromise, AssumeRight, BackPromise, ExplainPromise, ExplainLeaves, ExplainRight}
 use Rattle.history.specs.Calls.{Called, opening, assuming, backing, explaining, open_event, assume_event, back_event, explain_event, event, Calls, done, then, events, Matches, Counted}
 
@@ -44,6 +46,16 @@ use Rattle.history.specs.Calls.{Called, opening, assuming, backing, explaining, 
 pub refused_or : (r : ℕ) → ((c : ℕ) × (r ≡ suc c)) ⊎ (r ≡ 0)
 refused_or zero = inr refl
 refused_or (suc c) = inl (c, refl)
+
+pub refused_is : {A : Type 0} (a : Result A Refusal) (k : ℕ) → IsRefused a k → (r : Refusal) × (a ≡ Err r) × (number r ≡ k)
+refused_is (Ok x) k e = absurd e
+refused_is (Err r) k e = (r, refl, e)
+
+pub refused_same : {A : Type 0} (a b : Result A Refusal) (k : ℕ) → IsRefused a k → IsRefused b k → a ≡ b
+refused_same a b k e f =
+    let r = refused_is a k e in
+    let q = refused_is b k f in
+    r.1 ∙ ap Err (number_same r.0 q.0 (r.2 ∙ sym q.2)) ∙ sym q.1
 
 pub some_one : {A : Type 0} (x y : A) → some x ≡ some y → x ≡ y
 some_one {A = A} x y e = ap (inside x) e
@@ -69,30 +81,33 @@ refused_right none h work m cs ten twelve eleven c e = (never 10 cs ten c e, nev
 refused_right (some q) h work m cs ten twelve eleven c e = (never 10 cs ten c e, never 11 cs (eleven m.fit) c e, never 12 cs twelve c e)
 
 -- ---- open
-open_step : (s₀ : Option Position) (h : Header) (work s store literals rows store' literals' rows' : List ℕ) (answer : Opening) (h' : Header) (work' : List ℕ) → Matches h work s₀
+open_step : (s₀ : Option Position) (h : Header) (work s store literals rows store' literals' rows' : List ℕ) (answer : Result Opening Refusal)
+    (h' : Header) (work' : List ℕ) → Matches h work s₀
     → OpenPromise h s store work literals rows h' answer store' work' literals' rows'
     → Right s₀ (open_event s answer h'.kept literals' rows') × Matches h' work' (after s₀ (open_event s answer h'.kept literals' rows'))
 open_step s₀ h work s store literals rows store' literals' rows' answer h' work' m p = go (refused_or (refusal (open_checks s (length store) (length work) (length literals) (length rows))))
   where
-    opened_step : (answer : Opening) → OpenDone s store work literals rows h' answer store' work' literals' rows'
+    opened_step : (answer : Result Opening Refusal) → OpenDone s store work literals rows h' answer store' work' literals' rows'
         → Right s₀ (open_event s answer h'.kept literals' rows') × Matches h' work' (after s₀ (open_event s answer h'.kept literals' rows'))
-    opened_step (OpenRefused c) d = absurd d.leaves
-    opened_step (Unsatisfiable x) d = (subst (AnswersOpen (n_of s) (sheet_rows s)) (sym (some_one _ d.said d.says)) d.right, λ e. shut d.leaves.0 e)
+    opened_step (Err r) d = absurd d.leaves
+    opened_step (Ok (Unsatisfiable x)) d = (subst (AnswersOpen (n_of s) (sheet_rows s)) (sym (some_one _ d.said d.says)) d.right, λ e. shut d.leaves.0 e)
       where
         shut : h' ≡ nothing_open → h'.«open» ≡ 1 → ⊥
         shut e f = let g : h'.«open» ≡ 0 = ap (λ (k : Header). k.«open») e in absurd (omega arith)
-    opened_step (Opened x) d = (subst (AnswersOpen (n_of s) (sheet_rows s)) (sym (some_one _ d.said d.says)) d.right, d.leaves.4)
+    opened_step (Ok (Opened x)) d = (subst (AnswersOpen (n_of s) (sheet_rows s)) (sym (some_one _ d.said d.says)) d.right, d.leaves.4)
 
     go : ((c : ℕ) × (refusal (open_checks s (length store) (length work) (length literals) (length rows)) ≡ suc c)) ⊎ (refusal (open_checks s (length store) (length work) (length literals) (length rows)) ≡ 0)
         → Right s₀ (open_event s answer h'.kept literals' rows') × Matches h' work' (after s₀ (open_event s answer h'.kept literals' rows'))
     go (inl w) =
         let e = p.refused w.0 w.1 in
+        let r = refused_is answer (suc w.0) e.0 in
         let cs = open_checks s (length store) (length work) (length literals) (length rows) in
-        rw e.0 (refused_right s₀ h work m cs refl refl (λ f. refl) w.0 w.1, rw (e.1, e.3) m)
+        rw (r.1, r.2) (refused_right s₀ h work m cs refl refl (λ f. refl) w.0 w.1, rw (e.1, e.3) m)
     go (inr z) = opened_step answer (p.done z)
 
 -- ---- assume
-assume_step : (s₀ : Option Position) (h : Header) (work : List ℕ) (code : ℕ) (literals literals' : List ℕ) (answer : Assuming) (h' : Header) (work' : List ℕ) → Matches h work s₀
+assume_step : (s₀ : Option Position) (h : Header) (work : List ℕ) (code : ℕ) (literals literals' : List ℕ) (answer : Result Assuming Refusal)
+    (h' : Header) (work' : List ℕ) → Matches h work s₀
     → AssumePromise h work literals code h' answer work' literals'
     → Right s₀ (assume_event code answer literals') × Matches h' work' (after s₀ (assume_event code answer literals'))
 assume_step s₀ h work code literals literals' answer h' work' m p = go (refused_or (refusal (assume_checks h (length work) (length literals) code))) s₀ m
@@ -101,19 +116,20 @@ assume_step s₀ h work code literals literals' answer h' work' m p = go (refuse
         → Right (some q) (assumes code a) × Matches h' work' (after (some q) (assumes code a))
     given q st l a said e f g = ((rw (ap (λ (z : Position). z.n) st.here) l, subst (AnswersAssume q code) (sym e) f), subst (λ (z : AssumeAnswer). Stands h' work' (moved q code z)) (sym e) g)
 
-    right_step : (q : Position) → Stands h work q → Literal h.n code → (answer : Assuming) → AssumeRight q code h' answer work' literals'
+    right_step : (q : Position) → Stands h work q → Literal h.n code → (answer : Result Assuming Refusal) → AssumeRight q code h' answer work' literals'
         → Right (some q) (assume_event code answer literals') × Matches h' work' (after (some q) (assume_event code answer literals'))
-    right_step q st l (AssumeRefused c) r = absurd (none_some _ r.says)
-    right_step q st l Held r = given q st l held r.said (some_one held r.said r.says) r.right r.stands
-    right_step q st l (Conflict v) r = given q st l conflict r.said (some_one conflict r.said r.says) r.right r.stands
-    right_step q st l (Taken x) r = given q st l (implied (take x literals')) r.said (some_one (implied (take x literals')) r.said r.says) r.right r.stands
+    right_step q st l (Err e) r = absurd (none_some _ r.says)
+    right_step q st l (Ok Held) r = given q st l held r.said (some_one held r.said r.says) r.right r.stands
+    right_step q st l (Ok (Conflict v)) r = given q st l conflict r.said (some_one conflict r.said r.says) r.right r.stands
+    right_step q st l (Ok (Taken x)) r = given q st l (implied (take x literals')) r.said (some_one (implied (take x literals')) r.said r.says) r.right r.stands
 
     go : ((c : ℕ) × (refusal (assume_checks h (length work) (length literals) code) ≡ suc c)) ⊎ (refusal (assume_checks h (length work) (length literals) code) ≡ 0) → (s : Option Position) → Matches h work s
         → Right s (assume_event code answer literals') × Matches h' work' (after s (assume_event code answer literals'))
     go (inl w) s m =
         let e = p.refused w.0 w.1 in
+        let r = refused_is answer (suc w.0) e.0 in
         let cs = assume_checks h (length work) (length literals) code in
-        rw (e.0, ne_eqb (suc w.0) 12 (never 12 cs refl w.0 w.1)) (refused_right s h work m cs refl refl (λ f. rw (is_fit h f)) w.0 w.1, rw (e.1, e.2) m)
+        rw (r.1, r.2, ne_eqb (suc w.0) 12 (never 12 cs refl w.0 w.1)) (refused_right s h work m cs refl refl (λ f. rw (is_fit h f)) w.0 w.1, rw (e.1, e.2) m)
     go (inr z) none m = absurd (m (assume_judged h (length work) (length literals) code z).0.is_open)
     go (inr z) (some q) m = right_step q m (literal_of h (length work) (length literals) code z) answer (p.right z q m)
 
@@ -133,22 +149,25 @@ back_step (some q) h work depth zero h' work' m p = (deep, p.right refl q m)
         omega arith
 
 -- ---- explain
-explain_step : (s₀ : Option Position) (h : Header) (work : List ℕ) (v : ℕ) (clause rows clause' rows' : List ℕ) (answer : Explaining) → Matches h work s₀
+explain_step : (s₀ : Option Position) (h : Header) (work : List ℕ) (v : ℕ) (clause rows clause' rows' : List ℕ) (answer : Result Explained Refusal)
+    → Matches h work s₀
     → ExplainPromise h work clause rows v answer clause' rows'
     → Right s₀ (explain_event v answer clause' rows') × Matches h work (after s₀ (explain_event v answer clause' rows'))
 explain_step s₀ h work v clause rows clause' rows' answer m p = go (refused_or (refusal (explain_checks h (length work) (length clause) (length rows) v))) s₀ m
   where
-    right_step : (q : Position) → Stands h work q → Var h.n v → (answer : Explaining) → ExplainLeaves h answer clause rows clause' rows' → ExplainRight q v answer clause' rows'
+    right_step : (q : Position) → Stands h work q → Var h.n v → (answer : Result Explained Refusal)
+        → ExplainLeaves h answer clause rows clause' rows' → ExplainRight q v answer clause' rows'
         → Right (some q) (explain_event v answer clause' rows') × Matches h work (after (some q) (explain_event v answer clause' rows'))
-    right_step q st l (ExplainRefused c) f r = rw f.0 ((rw (ap (λ (z : Position). z.n) st.here) l, r), st)
-    right_step q st l (Explained x y) f r = ((rw (ap (λ (z : Position). z.n) st.here) l, r.0, subst (Explanation q v) (sym (some_one _ r.1.0 r.1.1)) r.1.2), st)
+    right_step q st l (Err e) f r = rw f.0 ((rw (ap (λ (z : Position). z.n) st.here) l, r), st)
+    right_step q st l (Ok e) f r = ((rw (ap (λ (z : Position). z.n) st.here) l, r.0, subst (Explanation q v) (sym (some_one _ r.1.0 r.1.1)) r.1.2), st)
 
     go : ((c : ℕ) × (refusal (explain_checks h (length work) (length clause) (length rows) v) ≡ suc c)) ⊎ (refusal (explain_checks h (length work) (length clause) (length rows) v) ≡ 0) → (s : Option Position) → Matches h work s
         → Right s (explain_event v answer clause' rows') × Matches h work (after s (explain_event v answer clause' rows'))
     go (inl w) s m =
         let e = p.refused w.0 w.1 in
+        let r = refused_is answer (suc w.0) e.0 in
         let cs = explain_checks h (length work) (length clause) (length rows) v in
-        rw (e.0, ne_eqb (suc w.0) 10 (never 10 cs refl w.0 w.1)) (refused_right s h work m cs refl refl (λ f. rw (is_fit h f)) w.0 w.1, m)
+        rw (r.1, r.2, ne_eqb (suc w.0) 10 (never 10 cs refl w.0 w.1)) (refused_right s h work m cs refl refl (λ f. rw (is_fit h f)) w.0 w.1, m)
     go (inr z) none m = absurd (m (explain_judged h (length work) (length clause) (length rows) v z).0.is_open)
     go (inr z) (some q) m = right_step q m (explain_judged h (length work) (length clause) (length rows) v z).4 answer (p.leaves z) (p.right z q m)
 

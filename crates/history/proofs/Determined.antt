@@ -8,6 +8,7 @@
 use mathlib.Core.Path.{◌≡◌, refl, sym, ap, ap₂, ◌∙◌}
 use mathlib.Core.Bool.{Bool, true, false, true≢false}
 use mathlib.Core.Logic.{◌⊎◌, inl, inr}
+use mathlib.Core.Option.{some}
 use mathlib.Core.List.{List, [], ◌++◌}
 use lib.ListN.{length, take, drop, take-append-drop, length-take}
 use lib.Dec.{ltb}
@@ -18,19 +19,21 @@ use Rattle.gf2.specs.Answers.{Position, opened, unsatisfiable, OpenAnswer, Assum
 use Rattle.gf2.proofs.Unique.{open_unique, assume_unique}
 use Rattle.gf2.proofs.Explained.{explain_unique}
 use Rattle.gf2.proofs.Reach.{reached_solution}
+use Rattle.std.specs.Prelude.{Result, Ok, Err}
 use Rattle.format.specs.Refusals.{refusal}
+use Rattle.format.specs.declared.Refusal.{Refusal}
+use Rattle.format.proofs.Answering.{number_same}
 use Rattle.format.specs.Sheet.{n_of, m_of, sheet_rows}
 use Rattle.format.proofs.Refusing.{accepted, none_either}
 use Rattle.judge.specs.declared.Header.{Header}
 use Rattle.judge.specs.Checks.{assume_checks, explain_checks}
 use Rattle.parity.specs.declared.Opening.{Opening}
-use Rattle.parity.specs.declared.Opening.TheVariants.{OpenRefused, Unsatisfiable, Opened}
+use Rattle.parity.specs.declared.Opening.TheVariants.{Unsatisfiable, Opened}
 use Rattle.parity.specs.declared.Assuming.{Assuming}
-use Rattle.parity.specs.declared.Assuming.TheVariants.{AssumeRefused, Held, Conflict, Taken}
-use Rattle.parity.specs.declared.Explaining.{Explaining}
-use Rattle.parity.specs.declared.Explaining.TheVariants.{ExplainRefused, Explained}
+use Rattle.parity.specs.declared.Assuming.TheVariants.{Held, Conflict, Taken}
+use Rattle.parity.specs.declared.Explained.{Explained}
 use Rattle.parity.specs.Promises.{Stands, Used, OpenPromise, OpenDone, open_checks, opens_with, AssumePromise, AssumeRight, AssumeLeaves, BackPromise, ExplainPromise, ExplainRight, ExplainLeaves}
-use Rattle.history.proofs.Demand.{refused_or, some_one, none_some}
+use Rattle.history.proofs.Demand.{refused_or, refused_same, some_one, none_some}
 
 -- ---- buffers
 used : (x : ℕ) (a : List ℕ) → x ≤ length a → length (take x a) ≡ x
@@ -47,7 +50,7 @@ same_buffer x y old a b p q lx ly e = (same, sym (take-append-drop x a) ∙ ap�
         omega arith
 
 -- ---- open
-pub record OpenSame (h k : Header) (x y : Opening) (store store' literals literals' rows rows' : List ℕ) : Type 0 where
+pub record OpenSame (h k : Header) (x y : Result Opening Refusal) (store store' literals literals' rows rows' : List ℕ) : Type 0 where
   pub header : h ≡ k
   pub answer : x ≡ y
   pub filled : store ≡ store'
@@ -79,27 +82,34 @@ module _ (old : Header) (s store work literals rows : List ℕ) where
       let f = none_either (ltb (length literals) (n_of s)) (ltb (length rows) (m_of s)) a.1.1.1.1.1.1.1.1.0 in
       (ltb-false (length literals) (n_of s) f.0, ltb-false (length rows) (m_of s) f.1)
 
-  pub open_determined : (h k : Header) (x y : Opening) (store₁ store₂ work₁ work₂ literals₁ literals₂ rows₁ rows₂ : List ℕ)
+  pub open_determined : (h k : Header) (x y : Result Opening Refusal) (store₁ store₂ work₁ work₂ literals₁ literals₂ rows₁ rows₂ : List ℕ)
       → OpenPromise old s store work literals rows h x store₁ work₁ literals₁ rows₁ → OpenPromise old s store work literals rows k y store₂ work₂ literals₂ rows₂
       → OpenSame h k x y store₁ store₂ literals₁ literals₂ rows₁ rows₂
   unfolding numbers_of count_of
   open_determined h k x y store₁ store₂ work₁ work₂ literals₁ literals₂ rows₁ rows₂ p q = go (refused_or OpenRefusal)
     where
-      both : (z : OpenRefusal ≡ 0) (x y : Opening) (d : OpenDone s store work literals rows h x store₁ work₁ literals₁ rows₁) (e : OpenDone s store work literals rows k y store₂ work₂ literals₂ rows₂)
+      both : (z : OpenRefusal ≡ 0) (x y : Result Opening Refusal) (d : OpenDone s store work literals rows h x store₁ work₁ literals₁ rows₁)
+          (e : OpenDone s store work literals rows k y store₂ work₂ literals₂ rows₂)
           → d.said ≡ e.said → OpenSame h k x y store₁ store₂ literals₁ literals₂ rows₁ rows₂
-      both z (OpenRefused c) y d e f = absurd d.leaves
-      both z (Unsatisfiable a) (OpenRefused c) d e f = absurd e.leaves
-      both z (Opened a) (OpenRefused c) d e f = absurd e.leaves
-      both z (Unsatisfiable a) (Opened b) d e f = absurd (not_both _ _ _ (some_one _ d.said d.says ∙ f ∙ sym (some_one _ e.said e.says)))
-      both z (Opened a) (Unsatisfiable b) d e f = absurd (not_both _ _ _ (some_one _ e.said e.says ∙ sym f ∙ sym (some_one _ d.said d.says)))
-      both z (Unsatisfiable a) (Unsatisfiable b) d e f =
+      both z (Err r) y d e f = absurd d.leaves
+      both z (Ok (Unsatisfiable a)) (Err r) d e f = absurd e.leaves
+      both z (Ok (Opened a)) (Err r) d e f = absurd e.leaves
+      both z (Ok (Unsatisfiable a)) (Ok (Opened b)) d e f = absurd (not_both _ _ _ (some_one _ d.said d.says ∙ f ∙ sym (some_one _ e.said e.says)))
+      both z (Ok (Opened a)) (Ok (Unsatisfiable b)) d e f = absurd (not_both _ _ _ (some_one _ e.said e.says ∙ sym f ∙ sym (some_one _ d.said d.says)))
+      both z (Ok (Unsatisfiable a)) (Ok (Unsatisfiable b)) d e f =
           let g : unsatisfiable (take a rows₁) ≡ unsatisfiable (take b rows₂) = some_one _ d.said d.says ∙ f ∙ sym (some_one _ e.said e.says) in
           let la = d.leaves.1 in
           let lb = e.leaves.1 in
           let r = (room z).1 in
           let w = same_buffer a b rows rows₁ rows₂ d.leaves.3 e.leaves.3 (omega arith) (omega arith) (ap numbers_of g) in
-          record { header = d.leaves.0 ∙ sym e.leaves.0; answer = ap Unsatisfiable w.0; filled = d.filled ∙ sym e.filled; listed = d.leaves.2 ∙ sym e.leaves.2; numbers = w.1 }
-      both z (Opened a) (Opened b) d e f =
+          record {
+            header = d.leaves.0 ∙ sym e.leaves.0;
+            answer = ap (λ (u : ℕ). Ok (Unsatisfiable u)) w.0;
+            filled = d.filled ∙ sym e.filled;
+            listed = d.leaves.2 ∙ sym e.leaves.2;
+            numbers = w.1;
+          }
+      both z (Ok (Opened a)) (Ok (Opened b)) d e f =
           let g : opened h.kept (take a literals₁) ≡ opened k.kept (take b literals₂) = some_one _ d.said d.says ∙ f ∙ sym (some_one _ e.said e.says) in
           let la = d.leaves.1 in
           let lb = e.leaves.1 in
@@ -107,7 +117,7 @@ module _ (old : Header) (s store work literals rows : List ℕ) where
           let w = same_buffer a b literals literals₁ literals₂ d.leaves.2 e.leaves.2 (omega arith) (omega arith) (ap numbers_of g) in
           record {
             header = d.leaves.0 ∙ ap (opens_with (n_of s) (m_of s)) (ap count_of g) ∙ sym e.leaves.0;
-            answer = ap Opened w.0;
+            answer = ap (λ (u : ℕ). Ok (Opened u)) w.0;
             filled = d.filled ∙ sym e.filled;
             listed = w.1;
             numbers = d.leaves.3 ∙ sym e.leaves.3;
@@ -117,7 +127,13 @@ module _ (old : Header) (s store work literals rows : List ℕ) where
       go (inl w) =
           let a = p.refused w.0 w.1 in
           let b = q.refused w.0 w.1 in
-          record { header = a.1 ∙ sym b.1; answer = a.0 ∙ sym b.0; filled = a.2 ∙ sym b.2; listed = a.4 ∙ sym b.4; numbers = a.5 ∙ sym b.5 }
+          record {
+            header = a.1 ∙ sym b.1;
+            answer = refused_same x y (suc w.0) a.0 b.0;
+            filled = a.2 ∙ sym b.2;
+            listed = a.4 ∙ sym b.4;
+            numbers = a.5 ∙ sym b.5;
+          }
       go (inr z) = both z x y (p.done z) (q.done z) (open_unique (n_of s) (sheet_rows s) (p.done z).said (q.done z).said (p.done z).right (q.done z).right)
 
 -- ---- back
@@ -132,7 +148,7 @@ back_determined old work depth a b h k work₁ work₂ p q = (same, go a b same 
     go (suc c) b e p q = (p.refused c refl).0 ∙ sym (q.refused c (sym e)).0
 
 -- ---- assume
-pub record AssumeSame (h k : Header) (x y : Assuming) (literals literals' : List ℕ) : Type 0 where
+pub record AssumeSame (h k : Header) (x y : Result Assuming Refusal) (literals literals' : List ℕ) : Type 0 where
   pub header : h ≡ k
   pub answer : x ≡ y
   pub listed : literals ≡ literals'
@@ -141,6 +157,9 @@ tag : AssumeAnswer → ℕ
 tag held = 0
 tag conflict = 1
 tag (implied xs) = 2
+
+tags : (a b s t : AssumeAnswer) → some a ≡ some s → some b ≡ some t → s ≡ t → tag a ≡ tag b
+tags a b s t e f g = ap tag (some_one a s e ∙ g ∙ sym (some_one b t f))
 
 implied_of : AssumeAnswer → List ℕ
 implied_of held = []
@@ -151,7 +170,8 @@ module _ (old : Header) (work literals : List ℕ) (code : ℕ) where
   abbrev pub AssumeRefusal : ℕ
   AssumeRefusal = refusal (assume_checks old (length work) (length literals) code)
 
-  pub assume_determined : (AssumeRefusal ≡ 0 → (p : Position) × Stands old work p) → (h k : Header) (x y : Assuming) (work₁ work₂ literals₁ literals₂ : List ℕ)
+  pub assume_determined : (AssumeRefusal ≡ 0 → (p : Position) × Stands old work p)
+      → (h k : Header) (x y : Result Assuming Refusal) (work₁ work₂ literals₁ literals₂ : List ℕ)
       → AssumePromise old work literals code h x work₁ literals₁ → AssumePromise old work literals code k y work₂ literals₂ → AssumeSame h k x y literals₁ literals₂
   unfolding tag implied_of
   assume_determined made h k x y work₁ work₂ literals₁ literals₂ a b = go (refused_or AssumeRefusal)
@@ -159,33 +179,35 @@ module _ (old : Header) (work literals : List ℕ) (code : ℕ) where
       fits : AssumeRefusal ≡ 0 → old.n ≤ length literals
       fits z = ltb-false (length literals) old.n (accepted (assume_checks old (length work) (length literals) code) refl z).1.1.0
 
-      both : AssumeRefusal ≡ 0 → (p : Position) (x y : Assuming) → AssumeLeaves old code h x work literals work₁ literals₁ → AssumeLeaves old code k y work literals work₂ literals₂
+      both : AssumeRefusal ≡ 0 → (p : Position) (x y : Result Assuming Refusal)
+          → AssumeLeaves old code h x work literals work₁ literals₁ → AssumeLeaves old code k y work literals work₂ literals₂
           → (c : AssumeRight p code h x work₁ literals₁) (d : AssumeRight p code k y work₂ literals₂) → c.said ≡ d.said → AssumeSame h k x y literals₁ literals₂
-      both z p (AssumeRefused e) y l m c d f = absurd (none_some _ c.says)
-      both z p Held (AssumeRefused e) l m c d f = absurd (none_some _ d.says)
-      both z p (Conflict v) (AssumeRefused e) l m c d f = absurd (none_some _ d.says)
-      both z p (Taken u) (AssumeRefused e) l m c d f = absurd (none_some _ d.says)
-      both z p Held Held l m c d f = record { header = l.0 ∙ sym m.0; answer = refl; listed = l.2 ∙ sym m.2 }
-      both z p (Conflict v) (Conflict w) l m c d f = record { header = l.1 ∙ sym m.1; answer = ap Conflict (l.0 ∙ sym m.0); listed = l.3 ∙ sym m.3 }
-      both z p (Taken u) (Taken w) l m c d f =
+      both z p (Err r) y l m c d f = absurd (none_some _ c.says)
+      both z p (Ok Held) (Err r) l m c d f = absurd (none_some _ d.says)
+      both z p (Ok (Conflict v)) (Err r) l m c d f = absurd (none_some _ d.says)
+      both z p (Ok (Taken u)) (Err r) l m c d f = absurd (none_some _ d.says)
+      both z p (Ok Held) (Ok Held) l m c d f = record { header = l.0 ∙ sym m.0; answer = refl; listed = l.2 ∙ sym m.2 }
+      both z p (Ok (Conflict v)) (Ok (Conflict w)) l m c d f =
+          record { header = l.1 ∙ sym m.1; answer = ap (λ (u : ℕ). Ok (Conflict u)) (l.0 ∙ sym m.0); listed = l.3 ∙ sym m.3 }
+      both z p (Ok (Taken u)) (Ok (Taken w)) l m c d f =
           let g : implied (take u literals₁) ≡ implied (take w literals₂) = some_one _ c.said c.says ∙ f ∙ sym (some_one _ d.said d.says) in
           let r = fits z in
           let lu = l.2 in
           let lw = m.2 in
           let s = same_buffer u w literals literals₁ literals₂ l.4 m.4 (omega arith) (omega arith) (ap implied_of g) in
-          record { header = l.0 ∙ sym m.0; answer = ap Taken s.0; listed = s.1 }
-      both z p Held (Conflict w) l m c d f = absurd (let g = ap tag (some_one held c.said c.says ∙ f ∙ sym (some_one conflict d.said d.says)) in omega arith)
-      both z p Held (Taken w) l m c d f = absurd (let g = ap tag (some_one held c.said c.says ∙ f ∙ sym (some_one (implied (take w literals₂)) d.said d.says)) in omega arith)
-      both z p (Conflict v) Held l m c d f = absurd (let g = ap tag (some_one conflict c.said c.says ∙ f ∙ sym (some_one held d.said d.says)) in omega arith)
-      both z p (Conflict v) (Taken w) l m c d f = absurd (let g = ap tag (some_one conflict c.said c.says ∙ f ∙ sym (some_one (implied (take w literals₂)) d.said d.says)) in omega arith)
-      both z p (Taken u) Held l m c d f = absurd (let g = ap tag (some_one (implied (take u literals₁)) c.said c.says ∙ f ∙ sym (some_one held d.said d.says)) in omega arith)
-      both z p (Taken u) (Conflict w) l m c d f = absurd (let g = ap tag (some_one (implied (take u literals₁)) c.said c.says ∙ f ∙ sym (some_one conflict d.said d.says)) in omega arith)
+          record { header = l.0 ∙ sym m.0; answer = ap (λ (u : ℕ). Ok (Taken u)) s.0; listed = s.1 }
+      both z p (Ok Held) (Ok (Conflict w)) l m c d f = absurd (omega (arith, tags held conflict _ _ c.says d.says f))
+      both z p (Ok Held) (Ok (Taken w)) l m c d f = absurd (omega (arith, tags held (implied (take w literals₂)) _ _ c.says d.says f))
+      both z p (Ok (Conflict v)) (Ok Held) l m c d f = absurd (omega (arith, tags conflict held _ _ c.says d.says f))
+      both z p (Ok (Conflict v)) (Ok (Taken w)) l m c d f = absurd (omega (arith, tags conflict (implied (take w literals₂)) _ _ c.says d.says f))
+      both z p (Ok (Taken u)) (Ok Held) l m c d f = absurd (omega (arith, tags (implied (take u literals₁)) held _ _ c.says d.says f))
+      both z p (Ok (Taken u)) (Ok (Conflict w)) l m c d f = absurd (omega (arith, tags (implied (take u literals₁)) conflict _ _ c.says d.says f))
 
       go : ((c : ℕ) × (AssumeRefusal ≡ suc c)) ⊎ (AssumeRefusal ≡ 0) → AssumeSame h k x y literals₁ literals₂
       go (inl w) =
           let e = a.refused w.0 w.1 in
           let f = b.refused w.0 w.1 in
-          record { header = e.1 ∙ sym f.1; answer = e.0 ∙ sym f.0; listed = e.3 ∙ sym f.3 }
+          record { header = e.1 ∙ sym f.1; answer = refused_same x y (suc w.0) e.0 f.0; listed = e.3 ∙ sym f.3 }
       go (inr z) =
           let p = (made z).0 in
           let st = (made z).1 in
@@ -194,7 +216,7 @@ module _ (old : Header) (work literals : List ℕ) (code : ℕ) where
           both z p x y (a.leaves z) (b.leaves z) c d (assume_unique p (reached_solution p st.reached) code c.said d.said c.right d.right)
 
 -- ---- explain
-pub record ExplainSame (x y : Explaining) (clause clause' rows rows' : List ℕ) : Type 0 where
+pub record ExplainSame (x y : Result Explained Refusal) (clause clause' rows rows' : List ℕ) : Type 0 where
   pub answer : x ≡ y
   pub clauses : clause ≡ clause'
   pub numbers : rows ≡ rows'
@@ -203,7 +225,7 @@ module _ (h : Header) (work clause rows : List ℕ) (v : ℕ) where
   abbrev pub ExplainRefusal : ℕ
   ExplainRefusal = refusal (explain_checks h (length work) (length clause) (length rows) v)
 
-  pub explain_determined : (ExplainRefusal ≡ 0 → (p : Position) × Stands h work p) → (x y : Explaining) (clause₁ clause₂ rows₁ rows₂ : List ℕ)
+  pub explain_determined : (ExplainRefusal ≡ 0 → (p : Position) × Stands h work p) → (x y : Result Explained Refusal) (clause₁ clause₂ rows₁ rows₂ : List ℕ)
       → ExplainPromise h work clause rows v x clause₁ rows₁ → ExplainPromise h work clause rows v y clause₂ rows₂ → ExplainSame x y clause₁ clause₂ rows₁ rows₂
   explain_determined made x y clause₁ clause₂ rows₁ rows₂ a b = go (refused_or ExplainRefusal)
     where
@@ -212,12 +234,14 @@ module _ (h : Header) (work clause rows : List ℕ) (v : ℕ) where
           let f = none_either (ltb (length clause) h.n) (ltb (length rows) h.m) (accepted (explain_checks h (length work) (length clause) (length rows) v) refl z).1.1.0 in
           (ltb-false (length clause) h.n f.0, ltb-false (length rows) h.m f.1)
 
-      both : ExplainRefusal ≡ 0 → (p : Position) → Reached p → (x y : Explaining) → ExplainLeaves h x clause rows clause₁ rows₁ → ExplainLeaves h y clause rows clause₂ rows₂
+      both : ExplainRefusal ≡ 0 → (p : Position) → Reached p → (x y : Result Explained Refusal)
+          → ExplainLeaves h x clause rows clause₁ rows₁ → ExplainLeaves h y clause rows clause₂ rows₂
           → ExplainRight p v x clause₁ rows₁ → ExplainRight p v y clause₂ rows₂ → ExplainSame x y clause₁ clause₂ rows₁ rows₂
-      both z p st (ExplainRefused c) (ExplainRefused d) l m e f = record { answer = ap ExplainRefused (l.0 ∙ sym m.0); clauses = l.1 ∙ sym m.1; numbers = l.2 ∙ sym m.2 }
-      both z p st (ExplainRefused c) (Explained i j) l m e f = absurd (f.0 e)
-      both z p st (Explained i j) (ExplainRefused d) l m e f = absurd (e.0 f)
-      both z p st (Explained i j) (Explained s t) l m e f =
+      both z p st (Err r) (Err q) l m e f =
+          record { answer = ap Err (number_same r q (l.0 ∙ sym m.0)); clauses = l.1 ∙ sym m.1; numbers = l.2 ∙ sym m.2 }
+      both z p st (Err r) (Ok b) l m e f = absurd (f.0 e)
+      both z p st (Ok a) (Err q) l m e f = absurd (e.0 f)
+      both z p st (Ok a) (Ok b) l m e f =
           let u : e.1.0 ≡ f.1.0 = explain_unique p st v e.1.0 f.1.0 e.1.2.answers f.1.2.answers in
           let g = some_one _ e.1.0 e.1.1 ∙ u ∙ sym (some_one _ f.1.0 f.1.1) in
           let r = fits z in
@@ -227,15 +251,15 @@ module _ (h : Header) (work clause rows : List ℕ) (v : ℕ) where
           let l1 = l.1 in
           let m0 = m.0 in
           let m1 = m.1 in
-          let cs = same_buffer i s clause clause₁ clause₂ l.2 m.2 (omega arith) (omega arith) (ap (λ (w : ExplainAnswer). w.clause) g) in
-          let rs = same_buffer j t rows rows₁ rows₂ l.3 m.3 (omega arith) (omega arith) (ap (λ (w : ExplainAnswer). w.numbers) g) in
-          record { answer = ap₂ Explained cs.0 rs.0; clauses = cs.1; numbers = rs.1 }
+          let cs = same_buffer a.codes b.codes clause clause₁ clause₂ l.2 m.2 (omega arith) (omega arith) (ap (λ (w : ExplainAnswer). w.clause) g) in
+          let rs = same_buffer a.numbers b.numbers rows rows₁ rows₂ l.3 m.3 (omega arith) (omega arith) (ap (λ (w : ExplainAnswer). w.numbers) g) in
+          record { answer = ap₂ (λ (u w : ℕ). Ok (record { codes = u; numbers = w })) cs.0 rs.0; clauses = cs.1; numbers = rs.1 }
 
       go : ((c : ℕ) × (ExplainRefusal ≡ suc c)) ⊎ (ExplainRefusal ≡ 0) → ExplainSame x y clause₁ clause₂ rows₁ rows₂
       go (inl w) =
           let e = a.refused w.0 w.1 in
           let f = b.refused w.0 w.1 in
-          record { answer = e.0 ∙ sym f.0; clauses = e.1 ∙ sym f.1; numbers = e.2 ∙ sym f.2 }
+          record { answer = refused_same x y (suc w.0) e.0 f.0; clauses = e.1 ∙ sym f.1; numbers = e.2 ∙ sym f.2 }
       go (inr z) =
           let p = (made z).0 in
           let st = (made z).1 in

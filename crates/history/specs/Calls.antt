@@ -5,35 +5,38 @@
 --   Matches h work s         the state is one that the module made for what is open; where nothing is, the header is not open
 --   Counted h p              the numbers of the header are those of the position: its variables, its rows, its taken literals, its kept rows
 -- Assumes nothing.
-use Rattle.std.specs.Prelude.{◌≡◌, cond, List, [], ◌∷◌, eqb, length, ℕ, zero, suc}
+use Rattle.std.specs.Prelude.{◌≡◌, cond, List, [], ◌∷◌, eqb, length, ℕ, zero, suc, Result}
 use Rattle.std.proofs.Math.Option.{Option, none, some}
 use Rattle.gf2.specs.Rows.{Rows, Kept}
 use Rattle.gf2.specs.Answers.{Position, OpenAnswer, AssumeAnswer, ExplainAnswer}
 use Rattle.gf2.specs.History.{Event, opens, assumes, backs, explains, unexplained, stuck, refused}
 use Rattle.format.specs.Sheet.{n_of, sheet_rows}
+use Rattle.format.specs.declared.Refusal.{Refusal}
 use Rattle.judge.specs.declared.Header.{Header}
 use Rattle.parity.specs.declared.Opening.{Opening}
 use Rattle.parity.specs.declared.Assuming.{Assuming}
-use Rattle.parity.specs.declared.Explaining.{Explaining}
+use Rattle.parity.specs.declared.Explained.{Explained}
 use Rattle.parity.specs.Numbers.{open_number, open_says, assume_number, assume_says, explain_number, explain_says}
 use Rattle.parity.specs.Promises.{Stands, OpenPromise, AssumePromise, BackPromise, ExplainPromise}
 
 pub data Called (h : Header) (work : List ℕ) : Header → List ℕ → Type 0 where
-  opening : (s store literals rows store' literals' rows' : List ℕ) (answer : Opening) {h' : Header} {work' : List ℕ}
+  opening : (s store literals rows store' literals' rows' : List ℕ) (answer : Result Opening Refusal) {h' : Header} {work' : List ℕ}
       → OpenPromise h s store work literals rows h' answer store' work' literals' rows' → Called h work h' work'
-  assuming : (code : ℕ) (literals literals' : List ℕ) (answer : Assuming) {h' : Header} {work' : List ℕ} → AssumePromise h work literals code h' answer work' literals' → Called h work h' work'
+  assuming : (code : ℕ) (literals literals' : List ℕ) (answer : Result Assuming Refusal) {h' : Header} {work' : List ℕ}
+      → AssumePromise h work literals code h' answer work' literals' → Called h work h' work'
   backing : (depth number : ℕ) {h' : Header} {work' : List ℕ} → BackPromise h work depth number h' work' → Called h work h' work'
-  explaining : (v : ℕ) (clause rows clause' rows' : List ℕ) (answer : Explaining) → ExplainPromise h work clause rows v answer clause' rows' → Called h work h work
+  explaining : (v : ℕ) (clause rows clause' rows' : List ℕ) (answer : Result Explained Refusal)
+      → ExplainPromise h work clause rows v answer clause' rows' → Called h work h work
 
 -- the number of a refusal, or what the answer says
-abbrev pub open_event : List ℕ → Opening → ℕ → List ℕ → List ℕ → Event
+abbrev pub open_event : List ℕ → Result Opening Refusal → ℕ → List ℕ → List ℕ → Event
 open_event s answer kept literals rows = go (open_says answer kept literals rows)
   where
     go : Option OpenAnswer → Event
     go none = refused (open_number answer)
     go (some said) = opens (n_of s) (sheet_rows s) said
 
-abbrev pub assume_event : ℕ → Assuming → List ℕ → Event
+abbrev pub assume_event : ℕ → Result Assuming Refusal → List ℕ → Event
 assume_event code answer literals = go (assume_says answer literals)
   where
     go : Option AssumeAnswer → Event
@@ -44,7 +47,7 @@ abbrev pub back_event : ℕ → ℕ → Event
 back_event depth zero = backs depth
 back_event depth (suc c) = refused (suc c)
 
-abbrev pub explain_event : ℕ → Explaining → List ℕ → List ℕ → Event
+abbrev pub explain_event : ℕ → Result Explained Refusal → List ℕ → List ℕ → Event
 explain_event v answer clause rows = go (explain_says answer clause rows)
   where
     go : Option ExplainAnswer → Event

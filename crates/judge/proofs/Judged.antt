@@ -1,17 +1,28 @@
 -- WHAT A CALL MAY RELY ON once no check holds; and where that is so, no check holds.
 --   back_judged, assume_judged, explain_judged   the header is within its bounds, the buffers are long enough, and the number offered is in range
+--   refused_more   a refusal that the first of some checks come to, they all come to
 --   back_passes, assume_passes, explain_passes   the other way round
 -- Assumes nothing.
-use mathlib.Core.Path.{◌≡◌, refl}
-use Prim.Native.Nat.{ℕ, ◌+◌, ◌*◌, ◌≤◌}
+use mathlib.Core.List.{List, ◌++◌}
+use mathlib.Core.Path.{◌≡◌, refl, sym, ◌∙◌}
+use Prim.Native.Nat.{ℕ, suc, ◌+◌, ◌-◌, ◌*◌, ◌≤◌}
+use native.Mathlib.Omega.{arith}
 use lib.Dec.{ltb}
 use borrow.Author.Tests.{le-ltb, ltb-false}
 use Rattle.gf2.specs.Rows.{Var}
-use Rattle.format.specs.Refusals.{refusal}
-use Rattle.format.proofs.Refusing.{accepted, none_either}
+use Rattle.format.specs.Refusals.{Check, refusal, number}
+use Rattle.format.specs.declared.Refusal.{Refusal}
+use Rattle.format.proofs.Answering.{number_pos}
+use Rattle.format.proofs.Refusing.{accepted, append-some, none_either}
 use Rattle.judge.specs.declared.Header.{Header}
 use Rattle.judge.specs.Checks.{Fit, assume_checks, back_checks, explain_checks}
 use Rattle.judge.proofs.LineEleven.{not_unfit, is_fit}
+
+pub refused_more : (cs ds : List Check) (r : Refusal) → number r ≡ refusal cs → number r ≡ refusal (cs ++ ds)
+refused_more cs ds r e =
+    let p = number_pos r in
+    let q : number r ≡ suc (number r - 1) = omega (arith, p) in
+    q ∙ sym (append-some cs ds (number r - 1) (sym e ∙ q))
 
 pub back_judged : (h : Header) (words depth : ℕ) → refusal (back_checks h words depth) ≡ 0 → Fit h × (4096 ≤ words) × (depth ≤ h.depth)
 back_judged h words depth e =

@@ -1,37 +1,15 @@
--- LINE 11, one condition after another: each that holds makes the header unfit, and all must fail for it to be fit.
---   not_open, past_n, past_m, past_kept   the header is unfit
---   by_depth, not_unfit                   the last condition decides; none holds: the header is fit
---   is_fit                                a fit header is not unfit
+-- LINE 11.
+--   not_unfit   a header that is not unfit is fit
+--   is_fit      a fit header is not unfit
 -- Assumes nothing.
-use mathlib.Core.Path.{◌≡◌, sym, ap, ◌∙◌}
-use mathlib.Core.Bool.{Bool, true, false, not, ◌||◌}
-use Prim.Native.Nat.{◌<◌, ◌≤◌, min}
+use mathlib.Core.Path.{◌≡◌}
+use mathlib.Core.Bool.{false, not}
+use Prim.Native.Nat.{min}
 use lib.Dec.{eqb, ltb}
-use borrow.Author.Tests.{lt-ltb, le-ltb, eq-eqb, ne_eqb, ltb-false, eqb-true, not-false}
-use Rattle.format.proofs.Refusing.{either_first, either_second, none_either}
+use borrow.Author.Tests.{le-ltb, eq-eqb, ltb-false, eqb-true, not-false}
+use Rattle.format.proofs.Refusing.{none_either}
 use Rattle.judge.specs.declared.Header.{Header}
 use Rattle.judge.specs.Checks.{unfit, Fit}
-
-module _ (h : Header) where
-  pub not_open : (h.«open» ≡ 1 → ⊥) → true ≡ unfit h
-  not_open ne = sym (either_first (not (eqb h.«open» 1)) _ (ap not (ne_eqb h.«open» 1 ne)))
-
-  later : (b : Bool) → b ≡ true → not (eqb h.«open» 1) || b ≡ true
-  later b e = either_second (not (eqb h.«open» 1)) b e
-
-  pub past_n : 512 < h.n → true ≡ unfit h
-  past_n l = sym (later _ (either_first (ltb 512 h.n) _ (lt-ltb 512 h.n l)))
-
-  pub past_m : 256 < h.m → true ≡ unfit h
-  past_m l = sym (later _ (either_second (ltb 512 h.n) _ (either_first (ltb 256 h.m) _ (lt-ltb 256 h.m l))))
-
-  pub past_kept : min h.n h.m < h.kept → true ≡ unfit h
-  past_kept l =
-      sym (later _ (either_second (ltb 512 h.n) _ (either_second (ltb 256 h.m) _ (either_first (ltb (min h.n h.m) h.kept) _ (lt-ltb (min h.n h.m) h.kept l)))))
-
-  -- all conditions but the last fail: the last decides
-  pub by_depth : h.«open» ≡ 1 → h.n ≤ 512 → h.m ≤ 256 → h.kept ≤ min h.n h.m → ltb h.n h.depth ≡ unfit h
-  by_depth o n m k = rw (eq-eqb h.«open» 1 o, le-ltb 512 h.n n, le-ltb 256 h.m m, le-ltb (min h.n h.m) h.kept k)
 
 pub not_unfit : (h : Header) → unfit h ≡ false → Fit h
 not_unfit h e =
@@ -48,4 +26,4 @@ not_unfit h e =
     }
 
 pub is_fit : (h : Header) → Fit h → unfit h ≡ false
-is_fit h f = sym (by_depth h f.is_open f.vars f.rows f.kept) ∙ le-ltb h.n h.depth f.depth
+is_fit h f = rw (eq-eqb h.«open» 1 f.is_open, le-ltb 512 h.n f.vars, le-ltb 256 h.m f.rows, le-ltb (min h.n h.m) h.kept f.kept) (le-ltb h.n h.depth f.depth)

@@ -1,13 +1,15 @@
 // The header of a state, and the refusals that a call gives before it looks into the working buffer.
 #![tactic(auto)]
 
-ghost use Rattle.std.specs.Prelude.{◌≡◌};
-ghost use Rattle.format.specs.Refusals.{refusal};
+ghost use Rattle.std.specs.Prelude.{◌≡◌, [], ◌∷◌, ltb};
+ghost use Rattle.format.specs.Refusals.{check, refusal, answered};
 ghost use Rattle.judge.specs.Checks.{unfit, assume_checks, back_checks, explain_checks};
 
-// A state is a header and a working buffer. It is open exactly if `open` is 1.
+use format::Refusal;
+
+// A state is a header and a working buffer. It is open exactly if `open` is 1. C programs hold it, and may put any number there.
 #[repr(C)]
-#[derive(Clone, Copy)]
+#[derive(Clone, Copy, Debug, Default, PartialEq, Eq)]
 pub struct Header {
     pub open: u64,
     pub n: usize,
@@ -20,83 +22,63 @@ pub struct Header {
 fn unfit(h: Header) -> bool
     ensures { result ≡ unfit h }
 {
-    if h.open != 1 {
-        return true;
-    }
-    if 512 < h.n {
-        return true;
-    }
-    if 256 < h.m {
-        return true;
-    }
-    if h.n < h.kept {
-        return true;
-    }
-    if h.m < h.kept {
-        return true;
-    }
-    h.n < h.depth
+    h.open != 1 || 512 < h.n || 256 < h.m || h.n.min(h.m) < h.kept || h.n < h.depth
 }
 
-// The refusal of an assume, or 0: line 12 is not judged here.
-pub fn judge_assume(h: Header, words: usize, room: usize, code: usize) -> u8
-    ensures { result ≡ refusal (assume_checks h words room code) }
+// Lines 11 and 6, by which assume, back and explain are judged first.
+fn judge_state(h: Header, words: usize) -> Result<(), Refusal>
+    ensures { answered result ≡ refusal (check 11 (unfit h) ∷ check 6 (ltb words 4096) ∷ []) }
 {
     if unfit(h) {
-        return 11;
+        return Err(Refusal::NotOpen);
     }
     if words < 4096 {
-        return 6;
+        return Err(Refusal::FewWords);
     }
+    Ok(())
+}
+
+// The refusal of an assume: line 12 is not judged here.
+pub fn judge_assume(h: Header, words: usize, room: usize, code: usize) -> Result<(), Refusal>
+    ensures { answered result ≡ refusal (assume_checks h words room code) }
+{
+    judge_state(h, words)?;
     if room < h.n {
-        return 7;
+        return Err(Refusal::ShortAnswer);
     }
-    if code < 2 {
-        return 8;
+    if code < 2 || 2 * h.n + 1 < code {
+        return Err(Refusal::OutOfRange);
     }
-    if 2 * h.n + 1 < code {
-        return 8;
-    }
-    0
+    Ok(())
 }
 
-// The refusal of a back, or 0.
-pub fn judge_back(h: Header, words: usize, depth: usize) -> u8
-    ensures { result ≡ refusal (back_checks h words depth) }
+// The refusal of a back.
+pub fn judge_back(h: Header, words: usize, depth: usize) -> Result<(), Refusal>
+    ensures { answered result ≡ refusal (back_checks h words depth) }
 {
-    if unfit(h) {
-        return 11;
-    }
-    if words < 4096 {
-        return 6;
-    }
+    judge_state(h, words)?;
     if h.depth < depth {
-        return 9;
+        return Err(Refusal::AboveDepth);
     }
-    0
+    Ok(())
 }
 
-// The refusal of an explain, or 0: line 10 is not judged here.
-pub fn judge_explain(h: Header, words: usize, codes: usize, numbers: usize, v: usize) -> u8
-    ensures { result ≡ refusal (explain_checks h words codes numbers v) }
+// The refusal of an explain: line 10 is not judged here.
+pub fn judge_explain(
+    h: Header,
+    words: usize,
+    codes: usize,
+    numbers: usize,
+    v: usize,
+) -> Result<(), Refusal>
+    ensures { answered result ≡ refusal (explain_checks h words codes numbers v) }
 {
-    if unfit(h) {
-        return 11;
+    judge_state(h, words)?;
+    if codes < h.n || numbers < h.m {
+        return Err(Refusal::ShortAnswer);
     }
-    if words < 4096 {
-        return 6;
+    if v < 1 || h.n < v {
+        return Err(Refusal::OutOfRange);
     }
-    if codes < h.n {
-        return 7;
-    }
-    if numbers < h.m {
-        return 7;
-    }
-    if v < 1 {
-        return 8;
-    }
-    if h.n < v {
-        return 8;
-    }
-    0
+    Ok(())
 }

@@ -1,8 +1,7 @@
 -- TEXT PUT INTO A BUFFER: the laws of `Put` and `spaced`.
 --   counted                       a count within a list, as `&buf[..n]` asks it
---   put_none, put_one, put_then   nothing, one byte, one text after another
+--   put_none, put_run, put_then   nothing, bytes that are copied into place, one text after another
 --   put_text                      the same text, said in another way
---   put_more                      one byte more of a list of bytes
 --   put_same                      `Put` leaves one result only
 --   spaced_one                    one item
 --   spaced_append                 the items of two lists, one after the other
@@ -15,8 +14,10 @@ use Prim.Native.Nat.{ℕ, ◌+◌, ◌-◌, ◌<◌, ◌≤◌}
 use native.Mathlib.Nat.{add-zero}
 use native.Mathlib.Numerals.{add-one}
 use native.Mathlib.Omega.{arith}
-use lib.ListN.{length, take, drop, set, get_or, length-append, length-set, length-take, take-append-drop}
-use lib.Seq.{take-suc-set, take-suc, drop-set-lt, drop-drop}
+use lib.ListN.{length, take, drop, get_or, length-append, length-drop, length-take, take-append-drop}
+use borrow.Rule.Slice.PartMut.{put_mid}
+use Rattle.std.proofs.lemmas.Slice.{take-put_mid, drop-put_mid}
+use lib.Seq.{take-suc, drop-drop}
 use Rattle.io.specs.Counts.{IsPrefixLen}
 use Rattle.lines.specs.Lines.{Put, dec, spaced, word}
 
@@ -32,14 +33,21 @@ put_none xs at h = record {
   counts = counted at xs h;
 }
 
-pub put_one : (xs : List ℕ) (at b : ℕ) → at < length xs → Put xs at (b ∷ []) (set xs at b) (at + 1)
-put_one xs at b h = record {
-  next = refl;
-  room = length-set xs at b;
-  front = rw (add-one, take-suc-set);
-  rest = drop-set-lt (at + 1) xs at b (omega arith);
-  counts = counted (at + 1) (set xs at b) (omega (arith, length-set xs at b));
-}
+-- bytes that are copied into place
+pub put_run : (at k : ℕ) (xs ys bytes : List ℕ) → ys ≡ bytes → k ≡ length bytes → at + length bytes ≤ length xs → Put xs at bytes (put_mid at k xs ys) (at + length bytes)
+put_run at k xs ys bytes e f h =
+    let zs : List ℕ = put_mid at k xs ys in
+    let r : ℕ = at + length bytes in
+    let l : at ≤ length xs = omega arith in
+    let n : length ys ≡ length bytes = ap length e in
+    let front : take r zs ≡ take at xs ++ bytes = take-put_mid at k xs ys r (omega arith) l ∙ ap (λ (s : List ℕ). take at xs ++ s) e in
+    let rest : drop r zs ≡ drop r xs = drop-put_mid at k xs ys r (omega arith) l (omega arith) in
+    let parts = length-append (take r zs) (drop r zs) in
+    let whole : length (take r zs ++ drop r zs) ≡ length zs = ap length (take-append-drop r zs) in
+    let before : length (take r zs) ≡ length (take at xs) + length bytes = ap length front ∙ length-append (take at xs) bytes in
+    let after : length (drop r zs) ≡ length (drop r xs) = ap length rest in
+    let room : length zs ≡ length xs = omega (arith, parts, length-drop r xs, length-take at xs) in
+    record { next = refl; room = room; front = front; rest = rest; counts = counted r zs (omega arith) }
 
 -- what is the same from p on is the same from any later place on
 later : (p r : ℕ) (xs ys : List ℕ) → p ≤ r → drop p ys ≡ drop p xs → drop r ys ≡ drop r xs
@@ -58,13 +66,6 @@ put_then {xs} {ys} {zs} {s} {t} {at} {p} {r} f g = record {
 
 pub put_text : {xs s t ys : List ℕ} {at r : ℕ} → Put xs at s ys r → s ≡ t → Put xs at t ys r
 put_text f e = rw e at f
-
-pub put_more : {xs ys : List ℕ} {at i : ℕ} (bytes : List ℕ) → Put xs at (take i bytes) ys (at + i) → i < length bytes → at + i < length ys
-    → Put xs at (take (i + 1) bytes) (set ys (at + i) (get_or bytes i 0)) (at + (i + 1))
-put_more {xs} {ys} {at} {i} bytes f h l =
-    let e : at + (i + 1) ≡ at + i + 1 = omega arith in
-    let t : take (i + 1) bytes ≡ take i bytes ++ (get_or bytes i 0 ∷ []) = rw (add-one, take-suc bytes i 0) in
-    rw (e, t) (put_then f (put_one ys (at + i) (get_or bytes i 0) l))
 
 pub put_same : {xs ys zs t : List ℕ} {at r q : ℕ} → Put xs at t ys r → Put xs at t zs q → (ys ≡ zs) × (r ≡ q)
 put_same {xs} {ys} {zs} {t} {at} {r} {q} f g =

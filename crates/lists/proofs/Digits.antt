@@ -1,6 +1,6 @@
 -- THE DIGITS OF ONE WORD, the top one first: which of them are kept, and how they are listed.
 --   first_shifted, first_all          the ones among the first digits, as two shifts leave them; all of them
---   items_grows, item_le              the list of the ones, as a scan makes it; an item is small
+--   items_grows                       the list of the ones, as a scan makes it
 --   Rest                              the loop that lists a word: the digits before `seen` are listed, and the others are left
 --   rest_start, rest_room, rest_next  before the loop; there is room for the top one, which is listed and taken away
 --   rest_end                          the list when nothing is left
@@ -9,16 +9,14 @@ use mathlib.Core.Path.{◌≡◌, refl, sym, ap, ap₂, ◌∙◌}
 use mathlib.Core.Bool.{Bool}
 use mathlib.Core.List.{List, [], ◌∷◌, ◌++◌}
 use Prim.Native.Nat.{ℕ, suc, ◌+◌, ◌*◌, ◌-◌, ◌/◌, ◌%◌, ◌^◌, ◌<◌, ◌≤◌}
-use native.Mathlib.Nat.{mod-eq_of_lt, mul-le-mul, lt_of_le_of_lt}
+use native.Mathlib.Nat.{mod-eq_of_lt, lt_of_le_of_lt}
 use native.Mathlib.Omega.{arith}
-use lib.Bits.{bit_xor}
-use lib.Count.{count_leading_zeros}
 use lib.ListN.{length, set, length-append}
 use lib.Pow.{shr-shr, split}
 use Rattle.gf2.specs.Places.{listed_if}
 use Rattle.words.specs.Words.{digit, bit_of}
-use Rattle.words.proofs.Ones.{high_digit, low_digit, zeros_lt, Left, left_start, left_end, left_seen, left_top, left_skip, left_next}
-use Rattle.tableau.specs.Layout.{max_vars}
+use Rattle.words.specs.Ones.{Top}
+use Rattle.words.proofs.Tops.{high_digit, low_digit, Left, left_start, left_end, left_seen, left_top, left_skip, left_next}
 use Rattle.lists.specs.Listing.{FirstOnes, items, ListPut}
 use Rattle.lists.proofs.Picking.{Grows, passed, grown, listed_none, listed_one, listed_join}
 
@@ -47,9 +45,6 @@ pub items_grows : (x t s base : ℕ) → Grows (λ k. items k x t s base) (λ i.
 unfolding items
 items_grows x t s base = record { none = refl; more = λ i. refl }
 
-pub item_le : (s y : ℕ) → s ≤ 2 → y ≤ max_vars → s * y ≤ 2 * max_vars
-item_le s y h k = mul-le-mul h k
-
 pub record Rest (x t s base at : ℕ) (out o : List ℕ) (rest c : ℕ) : Type 0 where
   pub seen : ℕ
   pub ones : Left x seen rest
@@ -61,33 +56,22 @@ rest_start x t s base at out f l =
     record { seen = 0; ones = left_start x f; listed = listed_none (length out) at out l }
 
 -- the top one is listed and taken away
-module _ (x t s base at : ℕ) (out o : List ℕ) (rest c : ℕ) (h : Rest x t s base at out o rest c) (pos : 0 < rest) (room : at + length (items 64 x t s base) ≤ length out) where
-  abbrev top : ℕ
-  top = count_leading_zeros 64 rest
-
+module _ (x t s base at : ℕ) (out o : List ℕ) (rest c i after : ℕ) (h : Rest x t s base at out o rest c) (top : Top rest i after)
+    (room : at + length (items 64 x t s base) ≤ length out) where
   abbrev item : ℕ
-  item = s * (base + 64 - (63 - top)) + t / 2 ^ (63 - top) % 2
+  item = s * (base + i + 1) + t / 2 ^ (63 - i) % 2
 
-  top_lt : top < 64
-  top_lt = zeros_lt rest pos h.ones.fits
-
-  seen_le : h.seen ≤ top
-  seen_le = left_seen x h.seen rest h.ones pos
-
-  between : items top x t s base ≡ items h.seen x t s base
-  between = passed (items_grows x t s base) h.seen top seen_le (left_skip x h.seen rest h.ones pos)
-
-  more : items (suc top) x t s base ≡ items h.seen x t s base ++ item ∷ []
+  more : items (suc i) x t s base ≡ items h.seen x t s base ++ item ∷ []
   more =
-      let e : base + top + 1 ≡ base + 64 - (63 - top) = omega (arith, top_lt) in
-      (items_grows x t s base).more top
-      ∙ ap₂ (λ (l : List ℕ) (b : Bool). l ++ listed_if b (s * (base + top + 1) + t / 2 ^ (63 - top) % 2)) between (left_top x h.seen rest h.ones pos)
-      ∙ ap (λ (y : ℕ). items h.seen x t s base ++ (s * y + t / 2 ^ (63 - top) % 2) ∷ []) e
+      (items_grows x t s base).more i
+      ∙ ap₂ (λ (l : List ℕ) (b : Bool). l ++ listed_if b item)
+      (passed (items_grows x t s base) h.seen i (left_seen x h.seen rest i after h.ones top) (left_skip x h.seen rest i after h.ones top))
+      (left_top x h.seen rest i after h.ones top)
 
   more_room : at + length (items h.seen x t s base ++ item ∷ []) ≤ length out
   more_room =
       let e = ap length more in
-      omega (arith, (grown (items_grows x t s base) (suc top) 64 top_lt).0)
+      omega (arith, (grown (items_grows x t s base) (suc i) 64 top.place).0)
 
   pub rest_room : c < length o
   rest_room =
@@ -95,15 +79,17 @@ module _ (x t s base at : ℕ) (out o : List ℕ) (rest c : ℕ) (h : Rest x t s
       let f = h.listed.long in
       omega (arith, more_room, length-append (items h.seen x t s base) (item ∷ []))
 
-  pub rest_next : Rest x t s base at out (set o c (s * (base + 64 - (63 - count_leading_zeros 64 rest)) + t / 2 ^ (63 - count_leading_zeros 64 rest) % 2)) (bit_xor rest (1 * 2 ^ (63 - count_leading_zeros 64 rest) % 2 ^ 64)) (c + 1)
+  pub rest_next : Rest x t s base at out (set o c (s * (base + i + 1) + t / 2 ^ (63 - i) % 2)) after (c + 1)
   rest_next =
       record {
-        seen = suc top;
-        ones = left_next x h.seen rest h.ones pos;
-        listed = rw more (listed_join (length out) (length o) at c (c + 1) (items h.seen x t s base) (item ∷ []) out o (set o c item) h.listed (listed_one c item o rest_room) more_room);
+        seen = suc i;
+        ones = left_next x h.seen rest i after h.ones top;
+        listed = rw more (listed_join (length out) (length o) at c (c + 1) (items h.seen x t s base) (item ∷ []) out o (set o c item) h.listed
+            (listed_one c item o rest_room) more_room);
       }
 
-pub rest_end : (x t s base at : ℕ) (out o : List ℕ) (rest c : ℕ) → Rest x t s base at out o rest c → rest ≡ 0 → ListPut (length out) at (items 64 x t s base) out o c
+pub rest_end : (x t s base at : ℕ) (out o : List ℕ) (rest c : ℕ) → Rest x t s base at out o rest c → rest ≡ 0
+    → ListPut (length out) at (items 64 x t s base) out o c
 rest_end x t s base at out o rest c h z = rw all h.listed
   where
     all : items 64 x t s base ≡ items h.seen x t s base

@@ -1,3 +1,4 @@
 pub mod Picking
 pub mod Digits
 pub mod ByWord
+pub mod Lists

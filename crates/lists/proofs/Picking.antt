@@ -4,6 +4,7 @@
 --   passed, grown                 where nothing is picked the list stays; it grows, by at most one item a place
 --   few, gap                      it has at most as many items as places; one fewer where one place is not picked
 --   joined                        a list of the places from base on, after the list of those below
+--   same_picked                   tests that pick the same places make the same list
 --   listed_none, listed_one       a list of nothing, and of one item, in the buffer
 --   listed_join                   a list after a list
 --   listed_cons                   an item before a list that starts at place 1
@@ -89,6 +90,16 @@ module _ {l : ℕ → List ℕ} {p : ℕ → Bool} {g : ℕ → ℕ} (h : Grows 
       ∙ append_assoc (l base) (m d) (listed_if (q d) (k d))
       ∙ ap (λ (x : List ℕ). l base ++ x) (sym (o.more d))
 
+-- two tests that pick the same places, with the same items
+pub same_picked : {l m : ℕ → List ℕ} {p q : ℕ → Bool} {g k : ℕ → ℕ} → Grows l p g → Grows m q k → (n : ℕ)
+    → ((i : ℕ) → i < n → p i ≡ q i) → ((i : ℕ) → i < n → p i ≡ true → g i ≡ k i) → l n ≡ m n
+same_picked h o zero a b = h.none ∙ sym o.none
+same_picked {l} {m} {p} {q} {g} {k} h o (suc n) a b =
+    h.more n
+    ∙ ap₂ (λ (x y : List ℕ). x ++ y) (same_picked h o n (λ i z. a i (omega arith)) (λ i z. b i (omega arith)))
+    (one_same (p n) (g n) (k n) (b n (omega arith)) ∙ ap (λ (x : Bool). listed_if x (k n)) (a n (omega arith)))
+    ∙ sym (o.more n)
+
 -- ---- lists in the buffer
 pub listed_none : (most at : ℕ) (out : List ℕ) → at ≤ most → ListPut most at [] out out at
 listed_none most at out m = record { count = sym (add-zero at); few = m; long = refl; used = λ i h. absurd (not-suc-le-zero h); rest = λ i h. refl }
@@ -104,7 +115,8 @@ listed_one c x o m = record { count = refl; few = omega arith; long = length-set
     rest i (inl z) = get_or-set_other o c i x 0 (λ (e : i ≡ c). absurd (omega arith))
     rest i (inr z) = get_or-set_other o c i x 0 (λ (e : i ≡ c). absurd (omega arith))
 
-pub listed_join : (n most at c x : ℕ) (l m out o o' : List ℕ) → ListPut n at l out o c → ListPut most c m o o' x → at + length (l ++ m) ≤ n → ListPut n at (l ++ m) out o' x
+pub listed_join : (n most at c x : ℕ) (l m out o o' : List ℕ) → ListPut n at l out o c → ListPut most c m o o' x → at + length (l ++ m) ≤ n
+    → ListPut n at (l ++ m) out o' x
 listed_join n most at c x l m out o o' h k room =
     let len = length-append l m in
     record { count = omega arith; few = omega arith; long = k.long ∙ h.long; used = λ i z. used i z (dec_lt i (length l)); rest = rest }

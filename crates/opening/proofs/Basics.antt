@@ -1,6 +1,5 @@
 -- THE KEPT ROWS HAVE THEIR BASIC VARIABLES, whatever the buffer held before opening.
---   basics_below       the words before row k stay
---   basics_loaded      a row of the store stands behind the rows; basics_reduced: it is reduced by one of them, basics_chain: by several
+--   basics_loaded      a row of the store stands behind the rows; basics_chain: it is reduced by several of them
 --   basics_homed       a home is set
 --   basics_exchanged   a variable becomes basic in the row behind the rows
 -- Assumes nothing.
@@ -26,7 +25,7 @@ basics_below k ws w h b r l = rw (h (last_at r) (omega arith)) (b r l)
 pub basics_loaded : (q k : ℕ) (store ws w : List ℕ) → Loaded q k store ws w → Basics k ws → Basics k w
 basics_loaded q k store ws w h = basics_below k ws w (λ i l. h.rest i (inl l))
 
-pub basics_reduced : (k r : ℕ) (ws w : List ℕ) → Reduced k r ws w → Basics k ws → Basics k w
+basics_reduced : (k r : ℕ) (ws w : List ℕ) → Reduced k r ws w → Basics k ws → Basics k w
 basics_reduced k r ws w (inl h) b = rw h.0 b
 basics_reduced k r ws w (inr h) b = basics_below k ws w (λ i l. h.1.rest i (inl l)) b
 

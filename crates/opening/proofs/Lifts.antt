@@ -4,7 +4,7 @@
 --   picked r           the provenance of the row once it is reduced by the rows below r
 --   open_step          the answer to one row of the sheet
 -- Assumes nothing.
-use mathlib.Core.Path.{◌≡◌, refl, sym, ap, ap₂, ◌∙◌}
+use mathlib.Core.Path.{◌≡◌, sym, ap, ap₂, ◌∙◌}
 use mathlib.Core.List.{List}
 use mathlib.Core.Bool.{Bool, true, false, ◌&&◌, and-false, true≢false}
 use mathlib.Core.Logic.{inl, inr, ◌≢◌}
@@ -31,9 +31,9 @@ use Rattle.tableau.specs.View.{RowsRead, BuiltAt}
 use Rattle.tableau.proofs.Reading.{bit-of, rows_below, rows_stay, homed_other, prov_bit, digit_sum, basic_kept}
 use Rattle.exchange.proofs.Exchanges.{exchange_rows, exchange_homes}
 use Rattle.exchange.specs.Steps.{Exchanged}
-use Rattle.opening.specs.declared.RowCase.{RowCase}
-use Rattle.opening.specs.declared.RowCase.TheVariants.{Redundant, Contradictory, Kept}
-use Rattle.opening.specs.Opened.{Loaded, Reduced, LowestAt, RowDone, RowOutcome}
+use Rattle.std.specs.Prelude.{Result, Ok, Err}
+use Rattle.opening.specs.declared.Contradiction.{Contradiction}
+use Rattle.opening.specs.Opened.{Loaded, Reduced, LowestAt, NoneAt, RowDone, RowOutcome}
 use Rattle.words.specs.Store.{StoreRead}
 use Rattle.opening.proofs.Homes.{homes_loaded, homes_chain}
 
@@ -154,14 +154,18 @@ module _ (n m : ℕ) (Sheet : ℕ → Row) (kept : ℕ → Bool) (kp : KeptPlace
   after : (a w : List ℕ) → Loaded q k store ws a → Chain (Reduced k) k a w → RowsRead n k w b.R b.β b.S × Slot n k w left src
   after a w h c = let l = loaded a h in reduced n k b.R b.β b.S b.built.tableau (Sheet q) q ln lk a l.0 l.1 k (omega arith) w c
 
-  none_coefs : (w : List ℕ) → Slot n k w left src → LowestAt w k 0 → SameCoefs n left (λ v. false)
+  none_coefs : (w : List ℕ) → Slot n k w left src → NoneAt w k → SameCoefs n left (λ v. false)
   none_coefs w sl s zero mv = absurd (not-suc-le-zero mv.low)
-  none_coefs w sl s (suc i) mv = let h = mv.high in let l : i < max_vars = omega arith in sym (sl.coefs i l) ∙ s.none refl i l
+  none_coefs w sl s (suc i) mv = let h = mv.high in let l : i < max_vars = omega arith in sym (sl.coefs i l) ∙ s i l
 
   -- a variable is left: it becomes basic in the new row
-  grown : (w a v z : List ℕ) (u : ℕ) → Loaded q k store ws a → Chain (Reduced k) k a v → LowestAt v k u → 0 < u → length v ≡ length ws → Homed u k v z → Exchanged (k + 1) k u z w → BuiltAt w n m Sheet kept (suc q) (suc k)
-  grown w a v z u h c s pos len home ex = more (u - 1) (bit-of u pos)
+  grown : (w a v z : List ℕ) (u : ℕ) → Loaded q k store ws a → Chain (Reduced k) k a v → LowestAt v k u → length v ≡ length ws → Homed u k v z
+      → Exchanged (k + 1) k u z w → BuiltAt w n m Sheet kept (suc q) (suc k)
+  grown w a v z u h c s len home ex = more (u - 1) (bit-of u pos)
     where
+      pos : 0 < u
+      pos = s.first
+
       f : RowsRead n k v b.R b.β b.S × Slot n k v left src
       f = after a v h c
 
@@ -181,7 +185,7 @@ module _ (n m : ℕ) (Sheet : ℕ → Row) (kept : ℕ → Bool) (kp : KeptPlace
           }
         where
           upper : u ≤ max_vars
-          upper = s.upto
+          upper = s.last
 
           room : size ≤ length z
           room = omega (arith, home.len)
@@ -190,10 +194,10 @@ module _ (n m : ℕ) (Sheet : ℕ → Row) (kept : ℕ → Bool) (kp : KeptPlace
           moved = rw (add-one k) at ex
 
           small : i < max_vars
-          small = let h = s.upto in omega arith
+          small = let h = s.last in omega arith
 
           eu : left u ≡ true
-          eu = ap left (sym e) ∙ sym (f.1.coefs i small) ∙ s.some i (sym e)
+          eu = let q : i ≡ u - 1 = omega arith in ap left (sym e) ∙ sym (f.1.coefs i small) ∙ ap (bit_at v (row_at k)) q ∙ s.has
 
           mu : Var n u
           mu = record { low = pos; high = le u n (λ g. true≢false (sym eu ∙ f.1.clean u g)) }
@@ -213,11 +217,11 @@ module _ (n m : ℕ) (Sheet : ℕ → Row) (kept : ℕ → Bool) (kp : KeptPlace
           twice = at_or_not (suc k) k (λ r. repoint (repoint b.β k 0) k u r ≡ repoint b.β k u r) (repoint_at (repoint b.β k 0) k u ∙ sym (repoint_at b.β k u))
               (λ r l d. repoint_other (repoint b.β k 0) k u r d ∙ repoint_other b.β k 0 r d ∙ sym (repoint_other b.β k u r d))
 
-  pub open_step : (w : List ℕ) (ans : RowCase) → RowDone q k store ws w ans → RowOutcome n m Sheet kept q k w ans
-  open_step w Redundant (s, e) =
+  pub open_step : (w : List ℕ) (ans : Result Bool Contradiction) → RowDone q k store ws w ans → RowOutcome n m Sheet kept q k w ans
+  open_step w (Ok true) t = grown w t.begun t.left t.housed t.u t.loaded t.reduced t.lowest t.long t.home t.moved
+  open_step w (Ok false) (s, e) =
       let f = after s.begun w s.loaded s.reduced in
       record { R = b.R; β = b.β; S = b.S; rows = f.0; homes = homes_chain k lk k s.begun w s.reduced (homes_loaded q k lk store ws s.begun s.loaded b.homes); built = skip_built n m Sheet kept kp q lq k b.R b.β b.S b.built (none_coefs w f.1 s.empty) (sym f.1.parity ∙ e) }
-  open_step w Contradictory (s, e) =
+  open_step w (Err x) (s, e, z) =
       let f = after s.begun w s.loaded s.reduced in
       (others n m Sheet kept kp q lq k b.R b.β b.S b.built, fails n m Sheet kept kp q lq k b.R b.β b.S b.built (none_coefs w f.1 s.empty) (sym f.1.parity ∙ e), f.1.from)
-  open_step w Kept t = grown w t.begun t.left t.housed t.u t.loaded t.reduced t.lowest t.some t.long t.home t.moved

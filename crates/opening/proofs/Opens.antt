@@ -7,7 +7,7 @@
 -- Assumes nothing.
 use mathlib.Core.Path.{◌≡◌, sym, ◌∙◌}
 use mathlib.Core.List.{List}
-use mathlib.Core.Bool.{Bool, false}
+use mathlib.Core.Bool.{Bool, true, false}
 use mathlib.Core.Logic.{◌⊎◌, inl, inr}
 use Prim.Native.Nat.{ℕ, suc, ◌+◌, ◌<◌, ◌≤◌}
 use native.Mathlib.Nat.{not-suc-le-zero}
@@ -23,14 +23,14 @@ use Rattle.words.specs.Words.{bit_at}
 use Rattle.tableau.specs.Layout.{max_vars, max_rows, from_at, size}
 use Rattle.tableau.specs.View.{MadeAt, BuiltAt}
 use Rattle.settle.proofs.Restarts.{restart_made}
-use Rattle.opening.specs.declared.RowCase.TheVariants.{Redundant, Contradictory, Kept}
+use Rattle.std.specs.Prelude.{Ok, Err}
 use Rattle.opening.specs.Opened.{Basics, Spent, Entered, RowDone, Opens, start, pass, grow, AllIn, Stopped}
 use Rattle.words.specs.Store.{StoreRead}
 use Rattle.opening.proofs.Basics.{basics_loaded, basics_chain, basics_homed, basics_exchanged}
 use Rattle.opening.proofs.Lifts.{open_step}
 
 pub opens_next : (store ws : List ℕ) (q k : ℕ) (v w : List ℕ) (k' : ℕ) → Opens store ws q k v → length v ≡ length ws
-    → (RowDone q k store v w Kept × (k' ≡ k + 1)) ⊎ (RowDone q k store v w Redundant × (k' ≡ k)) → Opens store ws (q + 1) k' w
+    → (RowDone q k store v w (Ok true) × (k' ≡ k + 1)) ⊎ (RowDone q k store v w (Ok false) × (k' ≡ k)) → Opens store ws (q + 1) k' w
 opens_next store ws q k v w k' o l (inl h) = rw (add-one q, h.1, add-one k) (grow q k v w o l h.0)
 opens_next store ws q k v w k' o l (inr h) = rw (add-one q, h.1) (pass q k v w o l h.0)
 
@@ -41,7 +41,7 @@ row_grown : (q k : ℕ) (store v w : List ℕ) → size ≤ length v → k < max
 row_grown q k store v w big l t b =
     let g = t.long in
     let h = t.home.len in
-    basics_exchanged k t.u t.housed w (omega arith) l t.some t.lowest.upto t.moved
+    basics_exchanged k t.u t.housed w (omega arith) l t.lowest.first t.lowest.last t.moved
     (basics_homed k t.u k t.left t.housed (omega arith) t.home (basics_chain k k t.begun t.left t.reduced (basics_loaded q k store v t.begun t.loaded b)))
 
 pub opens_basics : (store ws : List ℕ) → size ≤ length ws → (q k : ℕ) (w : List ℕ) → k ≤ max_rows → Opens store ws q k w → Basics k w
@@ -66,11 +66,11 @@ module _ (n m : ℕ) (Sheet : ℕ → Row) (kept : ℕ → Bool) (kp : KeptPlace
   opens_built q k w l (pass p k₁ v w₁ o len r) =
       let b = opens_built p k₁ v (omega arith) o in
       let f = few_rows v p k₁ b in
-      open_step n m Sheet kept kp store st ln lm p k₁ l (omega arith) v (omega arith) b w Redundant r
+      open_step n m Sheet kept kp store st ln lm p k₁ l (omega arith) v (omega arith) b w (Ok false) r
   opens_built q k w l (grow p k₁ v w₁ o len r) =
       let b = opens_built p k₁ v (omega arith) o in
       let f = few_rows v p k₁ b in
-      open_step n m Sheet kept kp store st ln lm p k₁ l (omega arith) v (omega arith) b w Kept r
+      open_step n m Sheet kept kp store st ln lm p k₁ l (omega arith) v (omega arith) b w (Ok true) r
 
   pub open_made : (k : ℕ) (w : List ℕ) → length w ≡ length ws → AllIn m store ws k w → MadeAt w n m Sheet kept 0 (λ j. 0) (λ j. false) k
   open_made k w len a =
@@ -85,4 +85,4 @@ module _ (n m : ℕ) (Sheet : ℕ → Row) (kept : ℕ → Bool) (kp : KeptPlace
       let l = a.low in
       let f = a.few in
       let g = a.long in
-      open_step n m Sheet kept kp store st ln lm a.q k a.low (omega arith) a.middle (omega arith) (opens_built a.q k a.middle (omega arith) a.rows) w Contradictory a.last
+      open_step n m Sheet kept kp store st ln lm a.q k a.low (omega arith) a.middle (omega arith) (opens_built a.q k a.middle (omega arith) a.rows) w (Err (record { row = k })) a.last

@@ -1,6 +1,5 @@
 -- ASSUME: what it answers, and what it leaves, case by case of what the step did.
---   promise_refused    a check holds
---   promise_held, promise_conflict, promise_stuck, promise_taken   none does: the four answers of a step
+--   promise_held, promise_conflict, promise_stuck, promise_taken   no check holds: the four answers of a step
 -- Assumes nothing.
 use mathlib.Core.Path.{◌≡◌, refl, sym, ap, ◌∙◌, subst}
 use mathlib.Core.Bool.{Bool, not, ◌&&◌, and_assoc}
@@ -15,7 +14,9 @@ use Rattle.gf2.specs.Places.{scanned}
 use Rattle.gf2.proofs.Sums.{same_comm}
 use Rattle.gf2.proofs.Literals.{of_range}
 use Rattle.linear.specs.State.{with_at, with_bool}
+use Rattle.std.specs.Prelude.{Ok, Err}
 use Rattle.format.specs.Refusals.{refusal}
+use Rattle.format.specs.declared.Refusal.TheVariants.{NoPartner}
 use Rattle.judge.specs.declared.Header.{Header}
 use Rattle.judge.specs.Checks.{assume_checks, at_depth}
 use Rattle.judge.proofs.Judged.{assume_judged}
@@ -29,7 +30,7 @@ use Rattle.exchange.specs.declared.Offer.TheVariants as offer
 use Rattle.exchange.specs.Steps.{Stepped, OfferOutcome}
 use Rattle.exchange.proofs.Steps.{step_made}
 use Rattle.lists.specs.Listing.{is_new, ListPut}
-use Rattle.parity.specs.declared.Assuming.TheVariants.{AssumeRefused, Held, Conflict, Taken}
+use Rattle.parity.specs.declared.Assuming.TheVariants.{Held, Conflict, Taken}
 use Rattle.parity.specs.Promises.{Stands, AssumePromise}
 use Rattle.parity.proofs.Part.{front_bit, replaced_front, replaced_worked}
 use Rattle.lists.proofs.Picking.{listed_take}
@@ -41,16 +42,6 @@ three a b c d e f p q r = rw (p, q, r) (and_assoc d (not e) (not f))
 
 -- ---- the promise
 module _ (h : Header) (work literals : List ℕ) (code : ℕ) where
-  abbrev number : ℕ
-  number = refusal (assume_checks h (length work) (length literals) code)
-
-  pub promise_refused : (c : ℕ) → c ≡ number → (c ≡ 0 → ⊥) → AssumePromise h work literals code h (AssumeRefused c) work literals
-  promise_refused c e ne = record {
-    refused = λ d f. (ap AssumeRefused (e ∙ f), refl, refl, refl);
-    leaves = λ z. absurd (ne (e ∙ z));
-    right = λ z. absurd (ne (e ∙ z));
-  }
-
   module _ (j : refusal (assume_checks h (length work) (length literals) code) ≡ 0) where
     room : size ≤ length work
     room = (assume_judged h (length work) (length literals) code j).1
@@ -81,19 +72,19 @@ module _ (h : Header) (work literals : List ℕ) (code : ℕ) where
       meaning s x e o =
           step_made h.n h.m s.Sheet s.kept h.depth s.var s.val h.kept (take size work) code (of_range h.n code low (let u = high in omega arith)) s.made w x e o
 
-      pub promise_held : Did offer.Held → AssumePromise h work literals code h Held (w ++ drop size work) literals
+      pub promise_held : Did offer.Held → AssumePromise h work literals code h (Ok Held) (w ++ drop size work) literals
       promise_held o =
-          subst (λ (u : List ℕ). AssumePromise h work literals code h Held u literals) (sym (unchanged w o.0))
+          subst (λ (u : List ℕ). AssumePromise h work literals code h (Ok Held) u literals) (sym (unchanged w o.0))
           (record { refused = λ c e. absurd (not_refused c e); leaves = λ q. (refl, refl, refl); right = λ q p s. record { said = held; says = refl; right = offered_held h work p s code low high o.1 o.2; stands = s } })
 
-      pub promise_conflict : Did offer.Conflict → AssumePromise h work literals code h (Conflict (code / 2)) (w ++ drop size work) literals
+      pub promise_conflict : Did offer.Conflict → AssumePromise h work literals code h (Ok (Conflict (code / 2))) (w ++ drop size work) literals
       promise_conflict o =
-          subst (λ (u : List ℕ). AssumePromise h work literals code h (Conflict (code / 2)) u literals) (sym (unchanged w o.0))
+          subst (λ (u : List ℕ). AssumePromise h work literals code h (Ok (Conflict (code / 2))) u literals) (sym (unchanged w o.0))
           (record { refused = λ c e. absurd (not_refused c e); leaves = λ q. (refl, refl, refl, refl); right = λ q p s. record { said = conflict; says = refl; right = offered_conflict h work p s code low high o.1 o.2; stands = s } })
 
-      pub promise_stuck : Did offer.Stuck → AssumePromise h work literals code h (AssumeRefused 12) (w ++ drop size work) literals
+      pub promise_stuck : Did offer.Stuck → AssumePromise h work literals code h (Err NoPartner) (w ++ drop size work) literals
       promise_stuck o =
-          subst (λ (u : List ℕ). AssumePromise h work literals code h (AssumeRefused 12) u literals) (sym (unchanged w o.0))
+          subst (λ (u : List ℕ). AssumePromise h work literals code h (Err NoPartner) u literals) (sym (unchanged w o.0))
           (record { refused = λ d e. absurd (not_refused d e); leaves = λ q. (refl, refl, refl, refl); right = λ q p s. absurd (meaning s offer.Stuck (ap length o.0) o) })
 
       -- the literals listed are those that the definition asks for
@@ -106,7 +97,7 @@ module _ (h : Header) (work literals : List ℕ) (code : ℕ) where
         made_after : {p : Position} (s : Stands h work p) → MadeAt w h.n h.m s.Sheet s.kept (suc h.depth) (with_at s.var h.depth (variable code)) (with_bool s.val h.depth (value code)) h.kept
         made_after s = (meaning s offer.Taken e o).2
 
-        pub promise_taken : AssumePromise h work literals code (at_depth h (h.depth + 1)) (Taken count) (w ++ drop size work) literals'
+        pub promise_taken : AssumePromise h work literals code (at_depth h (h.depth + 1)) (Ok (Taken count)) (w ++ drop size work) literals'
         promise_taken = record {
           refused = λ c q. absurd (not_refused c q);
           leaves = λ q. (refl, o.1, l.few, replaced_worked work w room e, listed_used h.n _ literals literals' count l);

@@ -1,5 +1,4 @@
 -- EXPLAIN: what it answers, and what it leaves.
---   promise_denied                      a check holds
 --   promise_no_value, promise_assumed   v has no value; it has one, and is basic in no row
 --   promise_explained                   row r gives v its value
 -- Assumes nothing.
@@ -19,7 +18,9 @@ use Rattle.gf2.proofs.Scans.{scanned_same}
 use Rattle.gf2.proofs.Explained.{explanation}
 use Rattle.linear.specs.Positions.{position}
 use Rattle.linear.proofs.Explaining.{cited_rows, made_no_value, made_assumed, made_explains, made_explained}
+use Rattle.std.specs.Prelude.{None, Ok, Err}
 use Rattle.format.specs.Refusals.{refusal}
+use Rattle.format.specs.declared.Refusal.TheVariants as refusals
 use Rattle.judge.specs.declared.Header.{Header}
 use Rattle.judge.specs.Checks.{explain_checks}
 use Rattle.judge.proofs.Judged.{explain_judged}
@@ -27,11 +28,10 @@ use Rattle.words.specs.Words.{bit_at}
 use Rattle.tableau.specs.Layout.{max_rows, row_at, from_at, last_at, known_at, truth_at, size}
 use Rattle.tableau.specs.Buffer.{basic_at, home_at}
 use Rattle.tableau.specs.View.{vals, Homes}
-use Rattle.exchange.specs.Steps.{Found}
+use Rattle.exchange.specs.Steps.{Found, FoundAt}
 use Rattle.exchange.proofs.Finds.{found_none}
 use Rattle.exchange.proofs.Steps.{known_bit, truth_bit}
 use Rattle.lists.specs.Listing.{numbers, is_other, ListPut}
-use Rattle.parity.specs.declared.Explaining.TheVariants.{ExplainRefused, Explained}
 use Rattle.parity.specs.Promises.{Stands, ExplainPromise}
 use Rattle.parity.proofs.Part.{front_bit, front_home}
 use Rattle.lists.proofs.Picking.{listed_take}
@@ -39,13 +39,6 @@ use Rattle.parity.proofs.Listing.{listed_used}
 use Rattle.parity.proofs.Numbering.{numbers_chosen}
 
 module _ (h : Header) (work clause rows : List ℕ) (v : ℕ) where
-  pub promise_denied : (c : ℕ) → c ≡ refusal (explain_checks h (length work) (length clause) (length rows) v) → (c ≡ 0 → ⊥) → ExplainPromise h work clause rows v (ExplainRefused c) clause rows
-  promise_denied c e ne = record {
-    refused = λ d f. (ap ExplainRefused (e ∙ f), refl, refl);
-    leaves = λ z. absurd (ne (e ∙ z));
-    right = λ z. absurd (ne (e ∙ z));
-  }
-
   module _ (j : refusal (explain_checks h (length work) (length clause) (length rows) v) ≡ 0) where
     room : size ≤ length work
     room = (explain_judged h (length work) (length clause) (length rows) v j).1
@@ -94,28 +87,32 @@ module _ (h : Header) (work clause rows : List ℕ) (v : ℕ) where
           let d = s.made.vars in
           ap (home_at work) (sym (front_basic r (omega arith))) ∙ sym (front_home work (basic_at front r) (omega arith)) ∙ s.made.homes r l
 
-    promise_10 : ((p : Position) → Stands h work p → Unexplained p v) → ExplainPromise h work clause rows v (ExplainRefused 10) clause rows
+    promise_10 : ((p : Position) → Stands h work p → Unexplained p v) → ExplainPromise h work clause rows v (Err refusals.Unexplained) clause rows
     promise_10 f = record { refused = λ c e. absurd (not_refused c e); leaves = λ z. (refl, refl, refl); right = λ z p s. f p s }
 
-    pub promise_no_value : bit_at work known_at (v - 1) ≡ false → ExplainPromise h work clause rows v (ExplainRefused 10) clause rows
+    pub promise_no_value : bit_at work known_at (v - 1) ≡ false → ExplainPromise h work clause rows v (Err refusals.Unexplained) clause rows
     promise_no_value e = promise_10 (λ p s. subst (λ (q : Position). Unexplained q v) (sym s.here)
         (made_no_value h.n h.m s.Sheet s.kept h.depth s.var s.val h.kept s.made.R s.made.β s.made.S s.made.known s.made.truth s.made.made s.is_kept v mine (sym (known_is p s) ∙ e)))
 
-    pub promise_assumed : bit_at work known_at (v - 1) ≡ true → Found work h.kept v h.kept → ExplainPromise h work clause rows v (ExplainRefused 10) clause rows
+    pub promise_assumed : bit_at work known_at (v - 1) ≡ true → Found work h.kept v None
+        → ExplainPromise h work clause rows v (Err refusals.Unexplained) clause rows
     promise_assumed e f = promise_10 (λ p s. subst (λ (q : Position). Unexplained q v) (sym s.here)
         (made_assumed h.n h.m s.Sheet s.kept h.depth s.var s.val h.kept s.made.R s.made.β s.made.S s.made.known s.made.truth s.made.made s.is_kept v mine
         (found_none h.kept v work s.made.β (homes_are p s) (basic_is p s) f) (sym (known_is p s) ∙ e)))
 
-    pub promise_explained : (r : ℕ) → r < h.kept → Found work h.kept v r → bit_at work known_at (v - 1) ≡ true → (clause' rows' : List ℕ) (x y : ℕ)
+    pub promise_explained : (r : ℕ) → FoundAt work h.kept v r → bit_at work known_at (v - 1) ≡ true → (clause' rows' : List ℕ) (x y : ℕ)
         → ListPut h.n 0 (code v (bit_at work truth_at (v - 1)) ∷ scanned h.n (is_other work r v) (λ u. not (vals work truth_at u))) clause clause' x
         → ListPut h.m 0 (numbers h.m (bit_at work (from_at r))) rows rows' y
-        → ExplainPromise h work clause rows v (Explained x y) clause' rows'
-    promise_explained r l f e clause' rows' x y cl nl = record {
+        → ExplainPromise h work clause rows v (Ok (record { codes = x; numbers = y })) clause' rows'
+    promise_explained r f e clause' rows' x y cl nl = record {
       refused = λ c q. absurd (not_refused c q);
       leaves = λ z. (cl.few, nl.few, listed_used h.n _ clause clause' x cl, listed_used h.m _ rows rows' y nl);
       right = λ z p s. (explained p s, (record { clause = take x clause'; numbers = take y rows' }, refl, explanation p s.reached v (subst (λ (q : Position). Var q.n v) (sym s.here) mine) _ (answer p s)));
     }
       where
+        l : r < h.kept
+        l = f.below
+
         fits_clause : h.n ≤ length clause
         fits_clause = (explain_judged h (length work) (length clause) (length rows) v j).2
 
@@ -123,7 +120,7 @@ module _ (h : Header) (work clause rows : List ℕ) (v : ℕ) where
         fits_rows = (explain_judged h (length work) (length clause) (length rows) v j).3
 
         basic : (p : Position) (s : Stands h work p) → s.made.β r ≡ v
-        basic p s = sym (basic_is p s r l) ∙ (f.here l).1
+        basic p s = sym (basic_is p s r l) ∙ f.basic
 
         known : (p : Position) (s : Stands h work p) → s.made.known (s.made.β r) ≡ true
         known p s = ap s.made.known (basic p s) ∙ sym (known_is p s) ∙ e

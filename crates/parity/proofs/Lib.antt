@@ -5,5 +5,4 @@ pub mod Listing
 pub mod Assumed
 pub mod Numbering
 pub mod Explaineds
-pub mod Judging
 pub mod Opens

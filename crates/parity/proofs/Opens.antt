@@ -1,11 +1,11 @@
 -- OPEN: what it answers, and what it leaves.
---   said_read, open_judged   what opening may rely on once no check holds
---   promise_turned_down      a check holds
---   promise_rows             none does: the rows went in, or one contradicted
---   fill_fine, promise_filled   the same, with n and m as they were read
+--   all_zero        the header of numbers that are all zero
+--   open_judged     what opening may rely on once no check holds
+--   promise_rows    no check holds: the rows went in, or one contradicted
+--   promise_filled  the same, with n and m as they were read
 -- Assumes nothing.
 use mathlib.Core.Path.{◌≡◌, refl, sym, ap, ◌∙◌, subst}
-use mathlib.Core.Bool.{Bool, true, false, true≢false}
+use mathlib.Core.Bool.{Bool, false}
 use mathlib.Core.List.{List, [], ◌∷◌, ◌++◌, map}
 use lib.ListN.{length, take, drop}
 use lib.Dec.{ltb}
@@ -29,7 +29,7 @@ use Rattle.linear.proofs.Taking.{takes_fails, kept_length}
 use Rattle.linear.proofs.Explaining.{made_kept}
 use Rattle.format.specs.Bits.{bits_of}
 use Rattle.format.specs.Refusals.{refusal}
-use Rattle.format.specs.Sheet.{n_of, m_of, bits_for, row_of, sheet_rows, store_words, reader}
+use Rattle.format.specs.Sheet.{n_of, m_of, row_of, sheet_rows, store_words, reader}
 use Rattle.format.proofs.Refusing.{append-some, none_either}
 use Rattle.format.proofs.Refusing as refusing
 use Rattle.format.proofs.Accepted.{Accepted, accepted}
@@ -37,9 +37,9 @@ use Rattle.format.proofs.Places.{sheet_placed}
 use Rattle.judge.specs.declared.Header.{Header}
 use Rattle.words.specs.Words.{bit_at}
 use Rattle.words.specs.Store.{StoreRead}
-use Rattle.sheet.specs.declared.Reading.{Reading}
-use Rattle.sheet.specs.declared.Reading.TheVariants.{Refused, Read}
-use Rattle.sheet.specs.Reader.{said, reading, Reads}
+use Rattle.std.specs.Prelude.{Result, Ok}
+use Rattle.cursor.specs.declared.shape.Shape.{Shape}
+use Rattle.format.specs.declared.Refusal.{Refusal}
 use Rattle.sheet.proofs.Store.{store_read}
 use Rattle.tableau.specs.Layout.{max_rows, from_at, known_at, truth_at, size}
 use Rattle.tableau.specs.View.{MadeAt, vals}
@@ -47,37 +47,19 @@ use Rattle.lists.specs.Listing.{numbers, ListPut}
 use Rattle.opening.specs.Opened.{AllIn, Stopped}
 use Rattle.opening.proofs.Opens.{opens_built, open_made, open_fails}
 use Rattle.parity.specs.declared.Opening.{Opening}
-use Rattle.parity.specs.declared.Opening.TheVariants.{OpenRefused, Unsatisfiable, Opened}
+use Rattle.parity.specs.declared.Opening.TheVariants.{Unsatisfiable, Opened}
 use Rattle.parity.specs.Promises.{Stands, nothing_open, opens_with, open_own, open_checks, OpenPromise}
-use Rattle.parity.specs.Openings.{open_reading, RowsOpened, all_in, stopped}
+use Rattle.parity.specs.Openings.{IsOpenReading, RowsOpened, all_in, stopped}
 use Rattle.parity.proofs.Part.{front_long, front_bit, replaced_front, replaced_worked}
 use Rattle.lists.proofs.Picking.{listed_take}
 use Rattle.parity.proofs.Listing.{listed_used}
 use Rattle.parity.proofs.Numbering.{numbers_failed}
 
--- ---- the answer of the checks
-reads : Reading → Bool
-reads (Refused c) = false
-reads (Read n m) = true
+-- the header of numbers that are all zero
+pub all_zero : (h : Header) → (h.«open» ≡ 0) × ((h.n ≡ 0) × ((h.m ≡ 0) × ((h.kept ≡ 0) × (h.depth ≡ 0)))) → h ≡ nothing_open
+all_zero h e = λ i. record { «open» = e.0 i; n = e.1.0 i; m = e.1.1.0 i; kept = e.1.1.1.0 i; depth = e.1.1.1.1 i }
 
-first : Reading → ℕ
-first (Refused c) = c
-first (Read n m) = n
-
-second : Reading → ℕ
-second (Refused c) = 0
-second (Read n m) = m
-
-pub said_read : (r n m a b : ℕ) → Read n m ≡ said r a b → (r ≡ 0) × (n ≡ a) × (m ≡ b)
-unfolding reads first second
-said_read zero n m a b e = (refl, ap first e, ap second e)
-said_read (suc c) n m a b e = absurd (true≢false (ap reads e))
-
-pub said_refused : (r c a b : ℕ) → Refused c ≡ said r a b → (c ≡ r) × (c ≡ 0 → ⊥)
-unfolding reads first
-said_refused zero c a b e = absurd (true≢false (sym (ap reads e)))
-said_refused (suc r) c a b e = let f : c ≡ suc r = ap first e in (f, λ z. absurd (omega arith))
-
+-- ---- what the checks let through
 module _ (s : List ℕ) (store words literals rows : ℕ) (none : refusal (open_checks s store words literals rows) ≡ 0) where
   reader_none : refusal (reader s store) ≡ 0
   reader_none = go (refusal (reader s store)) refl
@@ -92,17 +74,10 @@ module _ (s : List ℕ) (store words literals rows : ℕ) (none : refusal (open_
       let b = none_either (ltb literals (n_of s)) (ltb rows (m_of s)) a.1.1.1.1.1.1.1.1.0 in
       (accepted s store reader_none, ltb-false words 4096 a.1.1.1.1.1.1.1.0, ltb-false literals (n_of s) b.0, ltb-false rows (m_of s) b.1)
 
-  pub reading_is : Read (n_of s) (m_of s) ≡ reading s store
-  reading_is = rw reader_none
-
 -- ---- the promise
 module _ (old : Header) (s store work literals rows : List ℕ) where
-  pub promise_turned_down : (c : ℕ) → Refused c ≡ open_reading s (length store) (length work) (length literals) (length rows) → OpenPromise old s store work literals rows old (OpenRefused c) store work literals rows
-  promise_turned_down c e =
-      let f = said_refused (refusal (open_checks s (length store) (length work) (length literals) (length rows))) c (n_of s) (m_of s) e in
-      record { refused = λ d g. (ap OpenRefused (f.0 ∙ g), refl, refl, refl, refl, refl); done = λ z. absurd (f.1 (f.0 ∙ z)) }
-
-  module _ (none : refusal (open_checks s (length store) (length work) (length literals) (length rows)) ≡ 0) (store' : List ℕ) (rd : Reads s store (Read (n_of s) (m_of s)) store') where
+  module _ (none : refusal (open_checks s (length store) (length work) (length literals) (length rows)) ≡ 0) (store' : List ℕ)
+      (filled : store' ≡ store_words (n_of s) (m_of s) (drop 19 (bits_of s)) ++ drop (9 * m_of s) store) where
     abbrev Sheet : ℕ → Row
     Sheet q = row_of (n_of s) (drop (q * (n_of s + 1)) (drop 19 (bits_of s)))
 
@@ -115,8 +90,15 @@ module _ (old : Header) (s store work literals rows : List ℕ) where
     judged : Accepted s (length store) (n_of s) (m_of s) × (size ≤ length work) × (n_of s ≤ length literals) × (m_of s ≤ length rows)
     judged = open_judged s (length store) (length work) (length literals) (length rows) none
 
+    abbrev shape : Shape
+    shape = record { n = n_of s; m = m_of s; n_fits = judged.0.n_small; m_fits = judged.0.m_small }
+
     rows_read : StoreRead (n_of s) (m_of s) store' Sheet
-    rows_read = store_read s store store' (n_of s) (m_of s) rd
+    rows_read = store_read s store store' shape
+        (record {
+          answer = (reader_none s (length store) (length work) (length literals) (length rows) none, record { n_is = refl; m_is = refl });
+          store = filled;
+        })
 
     same_rows : sheet_rows s ≡ numbered (m_of s) Sheet
     same_rows = sheet_placed (n_of s) (m_of s) (drop 19 (bits_of s))
@@ -186,11 +168,12 @@ module _ (old : Header) (s store work literals rows : List ℕ) where
         reached = opened_reached (n_of s) (sheet_rows s) k (take x literals') answer;
       }
 
-      pub promise_open : OpenPromise old s store work literals rows (opens_with (n_of s) (m_of s) k) (Opened x) store' (ws ++ drop size work) literals' rows
+      pub promise_open :
+          OpenPromise old s store work literals rows (opens_with (n_of s) (m_of s) k) (Ok (Opened x)) store' (ws ++ drop size work) literals' rows
       promise_open = record {
         refused = λ c q. absurd (not_refused c q);
         done = λ q. record {
-          filled = rd.store;
+          filled = filled;
           worked = replaced_worked work ws judged.1 e;
           leaves = (refl, l.few, listed_used (n_of s) _ literals literals' x l, refl, stands);
           said = opened k (take x literals');
@@ -205,11 +188,11 @@ module _ (old : Header) (s store work literals rows : List ℕ) where
       abbrev q : ℕ
       q = a.q
 
-      pub promise_unsatisfiable : OpenPromise old s store work literals rows nothing_open (Unsatisfiable x) store' (ws ++ drop size work) literals rows'
+      pub promise_unsatisfiable : OpenPromise old s store work literals rows nothing_open (Ok (Unsatisfiable x)) store' (ws ++ drop size work) literals rows'
       promise_unsatisfiable = record {
         refused = λ c z. absurd (not_refused c z);
         done = λ z. record {
-          filled = rd.store;
+          filled = filled;
           worked = replaced_worked work ws judged.1 e;
           leaves = (refl, l.few, refl, listed_used (m_of s) _ rows rows' x l);
           said = unsatisfiable (take x rows');
@@ -235,25 +218,18 @@ module _ (old : Header) (s store work literals rows : List ℕ) where
           list_is : take x rows' ≡ map (λ r. r.number) (chosen (by_number f.0) (numbered q Sheet) ++ (record { number = suc q; row = Sheet q } ∷ []))
           list_is = listed_take (m_of s) _ rows rows' x l judged.3 ∙ numbers_failed q (m_of s) (bit_at (ws ++ drop size work) (from_at k)) f.0 kept Sheet a.low f.1.sum.0 bits
 
-    pub promise_rows : (h : Header) (answer : Opening) (work' literals' rows' : List ℕ) → RowsOpened (n_of s) (m_of s) store' work literals rows h answer work' literals' rows'
+    pub promise_rows : (h : Header) (answer : Result Opening Refusal) (work' literals' rows' : List ℕ)
+        → RowsOpened (n_of s) (m_of s) store' work literals rows h answer work' literals' rows'
         → OpenPromise old s store work literals rows h answer store' work' literals' rows'
-    promise_rows h answer work' literals' rows' (all_in k ws x ls e a l) = promise_open k ws x ls e a l
-    promise_rows h answer work' literals' rows' (stopped k ws x rs e a l) = promise_unsatisfiable k ws x rs e a l
+    promise_rows _ _ _ _ _ (all_in k ws x ls e a l) = promise_open k ws x ls e a l
+    promise_rows _ _ _ _ _ (stopped k ws x rs e a l) = promise_unsatisfiable k ws x rs e a l
 
 -- ---- as the code has it: n and m as they were read
-pub fill_fine : (s : List ℕ) (store words literals rows n m : ℕ) → Read n m ≡ open_reading s store words literals rows
-    → (n ≤ 512) × (m ≤ 256) × (bits_for n m ≤ 8 * length s) × (9 * m ≤ store) × (size ≤ words) × (n ≤ literals) × (m ≤ rows)
-fill_fine s store words literals rows n m e =
-    let f = said_read (refusal (open_checks s store words literals rows)) n m (n_of s) (m_of s) e in
-    let j = open_judged s store words literals rows f.0 in
-    rw (f.1, f.2) (j.0.n_small, j.0.m_small, let z = j.0.size in omega arith, j.0.room_enough, j.1, j.2, j.3)
-
-pub promise_filled : (old : Header) (s store work literals rows : List ℕ) (n m : ℕ) → Read n m ≡ open_reading s (length store) (length work) (length literals) (length rows)
-    → (store' : List ℕ) → store' ≡ store_words n m (drop 19 (bits_of s)) ++ drop (9 * m) store
-    → (h : Header) (answer : Opening) (work' literals' rows' : List ℕ) → RowsOpened n m store' work literals rows h answer work' literals' rows'
+pub promise_filled : (old : Header) (s store work literals rows : List ℕ) (shape : Shape)
+    → IsOpenReading s (length store) (length work) (length literals) (length rows) (Ok shape)
+    → (store' : List ℕ) → store' ≡ store_words shape.n shape.m (drop 19 (bits_of s)) ++ drop (9 * shape.m) store
+    → (h : Header) (answer : Result Opening Refusal) (work' literals' rows' : List ℕ)
+    → RowsOpened shape.n shape.m store' work literals rows h answer work' literals' rows'
     → OpenPromise old s store work literals rows h answer store' work' literals' rows'
-promise_filled old s store work literals rows n m e store' filled h answer work' literals' rows' o =
-    let f = said_read (refusal (open_checks s (length store) (length work) (length literals) (length rows))) n m (n_of s) (m_of s) e in
-    promise_rows old s store work literals rows f.0 store'
-    (record { answer = reading_is s (length store) (length work) (length literals) (length rows) f.0; store = rw (f.1, f.2) at filled })
-    h answer work' literals' rows' (rw (f.1, f.2) at o)
+promise_filled old s store work literals rows shape e store' filled h answer work' literals' rows' o =
+    promise_rows old s store work literals rows e.0 store' (rw (e.1.n_is, e.1.m_is) at filled) h answer work' literals' rows' (rw (e.1.n_is, e.1.m_is) at o)

@@ -8,25 +8,25 @@
 --   OpenDone, AssumeRight, ExplainRight        which answer is right: for a sheet, and on a state that the module made
 --   OpenPromise, AssumePromise, BackPromise, ExplainPromise   the promises: a refusal changes nothing; any other answer is safe on every state, and right on a state that the module made
 -- Assumes nothing.
-use Rattle.std.specs.Prelude.{◌≡◌, Bool, ◌||◌, List, [], ◌∷◌, ◌++◌, length, take, drop, ltb, ℕ, suc, ◌+◌, ◌*◌, ◌<◌, ◌≤◌}
+use Rattle.std.specs.Prelude.{◌≡◌, Bool, ◌||◌, List, [], ◌∷◌, ◌++◌, length, take, drop, ltb, ℕ, suc, ◌+◌, ◌*◌, ◌<◌, ◌≤◌, Result, Ok, Err}
 use Rattle.std.proofs.Math.Option.{some}
 use Rattle.gf2.specs.Rows.{Row}
 use Rattle.gf2.specs.Answers.{variable, Position, start, withdrawn, moved, OpenAnswer, AnswersOpen, AssumeAnswer, AnswersAssume, ExplainAnswer, Explanation, Unexplained, Reached}
 use Rattle.linear.specs.State.{KeptPlaces}
 use Rattle.linear.specs.Positions.{position}
 use Rattle.format.specs.Bits.{bits_of}
-use Rattle.format.specs.Refusals.{Check, check, refusal}
+use Rattle.format.specs.Refusals.{Check, check, refusal, number, IsRefused}
 use Rattle.format.specs.Sheet.{n_of, m_of, sheet_rows, store_words, reader}
+use Rattle.format.specs.declared.Refusal.{Refusal}
 use Rattle.judge.specs.declared.Header.{Header}
 use Rattle.judge.specs.Checks.{Fit, assume_checks, back_checks, explain_checks, at_depth}
 use Rattle.tableau.specs.View.{MadeAt}
 use Rattle.tableau.specs.Layout.{size}
 use Rattle.parity.specs.declared.Opening.{Opening}
-use Rattle.parity.specs.declared.Opening.TheVariants.{OpenRefused, Unsatisfiable, Opened}
+use Rattle.parity.specs.declared.Opening.TheVariants.{Unsatisfiable, Opened}
 use Rattle.parity.specs.declared.Assuming.{Assuming}
-use Rattle.parity.specs.declared.Assuming.TheVariants.{AssumeRefused, Held, Conflict, Taken}
-use Rattle.parity.specs.declared.Explaining.{Explaining}
-use Rattle.parity.specs.declared.Explaining.TheVariants.{ExplainRefused, Explained}
+use Rattle.parity.specs.declared.Assuming.TheVariants.{Held, Conflict, Taken}
+use Rattle.parity.specs.declared.Explained.{Explained}
 use Rattle.parity.specs.Numbers.{open_says, assume_says, explain_says}
 
 -- ---- states
@@ -67,13 +67,14 @@ abbrev pub open_checks : List ℕ → ℕ → ℕ → ℕ → ℕ → List Check
 open_checks s store words literals rows = reader s store ++ open_own s words literals rows
 
 -- what an opening leaves that is not refused
-abbrev pub OpenLeaves : List ℕ → Header → Opening → List ℕ → List ℕ → List ℕ → List ℕ → List ℕ → Type 0
-OpenLeaves s h (OpenRefused c) work' literals rows literals' rows' = ⊥
-OpenLeaves s h (Unsatisfiable x) work' literals rows literals' rows' = (h ≡ nothing_open) × (x ≤ m_of s) × (literals' ≡ literals) × Used x rows rows'
-OpenLeaves s h (Opened x) work' literals rows literals' rows' =
+abbrev pub OpenLeaves : List ℕ → Header → Result Opening Refusal → List ℕ → List ℕ → List ℕ → List ℕ → List ℕ → Type 0
+OpenLeaves s h (Err r) work' literals rows literals' rows' = ⊥
+OpenLeaves s h (Ok (Unsatisfiable x)) work' literals rows literals' rows' = (h ≡ nothing_open) × (x ≤ m_of s) × (literals' ≡ literals) × Used x rows rows'
+OpenLeaves s h (Ok (Opened x)) work' literals rows literals' rows' =
     (h ≡ opens_with (n_of s) (m_of s) h.kept) × (x ≤ n_of s) × Used x literals literals' × (rows' ≡ rows) × Stands h work' (start (n_of s) (sheet_rows s))
 
-pub record OpenDone (s : List ℕ) (store work literals rows : List ℕ) (h : Header) (answer : Opening) (store' work' literals' rows' : List ℕ) : Type 0 where
+pub record OpenDone (s : List ℕ) (store work literals rows : List ℕ) (h : Header) (answer : Result Opening Refusal)
+    (store' work' literals' rows' : List ℕ) : Type 0 where
   pub filled : store' ≡ store_words (n_of s) (m_of s) (drop 19 (bits_of s)) ++ drop (9 * m_of s) store
   pub worked : Worked work work'
   pub leaves : OpenLeaves s h answer work' literals rows literals' rows'
@@ -81,29 +82,33 @@ pub record OpenDone (s : List ℕ) (store work literals rows : List ℕ) (h : He
   pub says : open_says answer h.kept literals' rows' ≡ some said
   pub right : AnswersOpen (n_of s) (sheet_rows s) said
 
-pub record OpenPromise (old : Header) (s store work literals rows : List ℕ) (h : Header) (answer : Opening) (store' work' literals' rows' : List ℕ) : Type 0 where
+pub record OpenPromise (old : Header) (s store work literals rows : List ℕ) (h : Header) (answer : Result Opening Refusal)
+    (store' work' literals' rows' : List ℕ) : Type 0 where
   pub refused : (c : ℕ) → refusal (open_checks s (length store) (length work) (length literals) (length rows)) ≡ suc c
-      → (answer ≡ OpenRefused (suc c)) × (h ≡ old) × (store' ≡ store) × (work' ≡ work) × (literals' ≡ literals) × (rows' ≡ rows)
+      → IsRefused answer (suc c) × (h ≡ old) × (store' ≡ store) × (work' ≡ work) × (literals' ≡ literals) × (rows' ≡ rows)
   pub done : refusal (open_checks s (length store) (length work) (length literals) (length rows)) ≡ 0 → OpenDone s store work literals rows h answer store' work' literals' rows'
 
 -- ---- assume
 
 -- on every state
-abbrev pub AssumeLeaves : Header → ℕ → Header → Assuming → List ℕ → List ℕ → List ℕ → List ℕ → Type 0
-AssumeLeaves old code h (AssumeRefused c) work literals work' literals' = (c ≡ 12) × (h ≡ old) × (work' ≡ work) × (literals' ≡ literals)
-AssumeLeaves old code h Held work literals work' literals' = (h ≡ old) × (work' ≡ work) × (literals' ≡ literals)
-AssumeLeaves old code h (Conflict v) work literals work' literals' = (v ≡ variable code) × (h ≡ old) × (work' ≡ work) × (literals' ≡ literals)
-AssumeLeaves old code h (Taken x) work literals work' literals' = (h ≡ at_depth old (old.depth + 1)) × (old.depth < old.n) × (x ≤ old.n) × Worked work work' × Used x literals literals'
+abbrev pub AssumeLeaves : Header → ℕ → Header → Result Assuming Refusal → List ℕ → List ℕ → List ℕ → List ℕ → Type 0
+AssumeLeaves old code h (Err r) work literals work' literals' = (number r ≡ 12) × (h ≡ old) × (work' ≡ work) × (literals' ≡ literals)
+AssumeLeaves old code h (Ok Held) work literals work' literals' = (h ≡ old) × (work' ≡ work) × (literals' ≡ literals)
+AssumeLeaves old code h (Ok (Conflict v)) work literals work' literals' = (v ≡ variable code) × (h ≡ old) × (work' ≡ work) × (literals' ≡ literals)
+AssumeLeaves old code h (Ok (Taken x)) work literals work' literals' =
+    (h ≡ at_depth old (old.depth + 1)) × (old.depth < old.n) × (x ≤ old.n) × Worked work work' × Used x literals literals'
 
 -- on a state that the module made for p
-pub record AssumeRight (p : Position) (code : ℕ) (h : Header) (answer : Assuming) (work' literals' : List ℕ) : Type 0 where
+pub record AssumeRight (p : Position) (code : ℕ) (h : Header) (answer : Result Assuming Refusal) (work' literals' : List ℕ) : Type 0 where
   pub said : AssumeAnswer
   pub says : assume_says answer literals' ≡ some said
   pub right : AnswersAssume p code said
   pub stands : Stands h work' (moved p code said)
 
-pub record AssumePromise (old : Header) (work literals : List ℕ) (code : ℕ) (h : Header) (answer : Assuming) (work' literals' : List ℕ) : Type 0 where
-  pub refused : (c : ℕ) → refusal (assume_checks old (length work) (length literals) code) ≡ suc c → (answer ≡ AssumeRefused (suc c)) × (h ≡ old) × (work' ≡ work) × (literals' ≡ literals)
+pub record AssumePromise (old : Header) (work literals : List ℕ) (code : ℕ) (h : Header) (answer : Result Assuming Refusal)
+    (work' literals' : List ℕ) : Type 0 where
+  pub refused : (c : ℕ) → refusal (assume_checks old (length work) (length literals) code) ≡ suc c
+      → IsRefused answer (suc c) × (h ≡ old) × (work' ≡ work) × (literals' ≡ literals)
   pub leaves : refusal (assume_checks old (length work) (length literals) code) ≡ 0 → AssumeLeaves old code h answer work literals work' literals'
   pub right : refusal (assume_checks old (length work) (length literals) code) ≡ 0 → (p : Position) → Stands old work p → AssumeRight p code h answer work' literals'
 
@@ -117,15 +122,16 @@ pub record BackPromise (old : Header) (work : List ℕ) (depth : ℕ) (number : 
 
 -- ---- explain
 
-abbrev pub ExplainLeaves : Header → Explaining → List ℕ → List ℕ → List ℕ → List ℕ → Type 0
-ExplainLeaves h (ExplainRefused c) clause rows clause' rows' = (c ≡ 10) × (clause' ≡ clause) × (rows' ≡ rows)
-ExplainLeaves h (Explained x y) clause rows clause' rows' = (x ≤ h.n) × (y ≤ h.m) × Used x clause clause' × Used y rows rows'
+abbrev pub ExplainLeaves : Header → Result Explained Refusal → List ℕ → List ℕ → List ℕ → List ℕ → Type 0
+ExplainLeaves h (Err r) clause rows clause' rows' = (number r ≡ 10) × (clause' ≡ clause) × (rows' ≡ rows)
+ExplainLeaves h (Ok e) clause rows clause' rows' = (e.codes ≤ h.n) × (e.numbers ≤ h.m) × Used e.codes clause clause' × Used e.numbers rows rows'
 
-abbrev pub ExplainRight : Position → ℕ → Explaining → List ℕ → List ℕ → Type 0
-ExplainRight p v (ExplainRefused c) clause rows = Unexplained p v
-ExplainRight p v (Explained x y) clause rows = (Unexplained p v → ⊥) × ((said : ExplainAnswer) × (explain_says (Explained x y) clause rows ≡ some said) × Explanation p v said)
+abbrev pub ExplainRight : Position → ℕ → Result Explained Refusal → List ℕ → List ℕ → Type 0
+ExplainRight p v (Err r) clause rows = Unexplained p v
+ExplainRight p v (Ok e) clause rows = (Unexplained p v → ⊥) × ((said : ExplainAnswer) × (explain_says (Ok e) clause rows ≡ some said) × Explanation p v said)
 
-pub record ExplainPromise (h : Header) (work clause rows : List ℕ) (v : ℕ) (answer : Explaining) (clause' rows' : List ℕ) : Type 0 where
-  pub refused : (c : ℕ) → refusal (explain_checks h (length work) (length clause) (length rows) v) ≡ suc c → (answer ≡ ExplainRefused (suc c)) × (clause' ≡ clause) × (rows' ≡ rows)
+pub record ExplainPromise (h : Header) (work clause rows : List ℕ) (v : ℕ) (answer : Result Explained Refusal) (clause' rows' : List ℕ) : Type 0 where
+  pub refused : (c : ℕ) → refusal (explain_checks h (length work) (length clause) (length rows) v) ≡ suc c
+      → IsRefused answer (suc c) × (clause' ≡ clause) × (rows' ≡ rows)
   pub leaves : refusal (explain_checks h (length work) (length clause) (length rows) v) ≡ 0 → ExplainLeaves h answer clause rows clause' rows'
   pub right : refusal (explain_checks h (length work) (length clause) (length rows) v) ≡ 0 → (p : Position) → Stands h work p → ExplainRight p v answer clause' rows'

@@ -2,151 +2,116 @@
 #![tactic(auto)]
 
 ghost use Rattle.std.specs.Prelude.{◌≡◌, ◌+◌, ◌*◌, ◌<◌, ◌≤◌, length};
-ghost use Rattle.judge.specs.Checks.{at_depth};
-ghost use Rattle.tableau.specs.Layout.{max_vars, max_rows, max_taken, size};
-ghost use Rattle.parity.specs.Openings.{open_reading, RowsOpened};
-ghost use Rattle.parity.specs.Promises.{nothing_open, opens_with, OpenPromise, AssumePromise, BackPromise, ExplainPromise};
+ghost use Rattle.format.specs.Refusals.{answered};
+ghost use Rattle.tableau.specs.Layout.{size};
+ghost use Rattle.parity.specs.Openings.{IsOpenReading, RowsOpened};
+ghost use Rattle.parity.specs.Promises.{OpenPromise, AssumePromise, BackPromise, ExplainPromise};
 
+use cursor::Shape;
 use exchange::Offer;
+use format::Refusal;
 use judge::Header;
-use opening::RowsCase;
-use sheet::Reading;
-use tableau::{KNOWN, SIZE};
-use words::bit;
+use opening::Contradiction;
+use tableau::{COEF_WORDS, KNOWN, SIZE};
+use words::{Literal, Variable, bit};
 
-// What open answers: refused with its number; unsatisfiable, with so many row numbers listed; open, with so many implied literals listed.
-#[derive(Clone, Copy)]
+// What open answers: unsatisfiable, with so many row numbers listed; open, with so many implied literals listed.
+#[derive(Clone, Copy, Debug, PartialEq, Eq)]
 pub enum Opening {
-    OpenRefused(u8),
     Unsatisfiable(usize),
     Opened(usize),
 }
 
-// What assume answers: refused with its number; held; in conflict with the value of a variable; taken, with so many newly implied literals listed.
-#[derive(Clone, Copy)]
+// What assume answers: held; in conflict with the value of a variable; taken, with so many newly implied literals listed.
+#[derive(Clone, Copy, Debug, PartialEq, Eq)]
 pub enum Assuming {
-    AssumeRefused(u8),
     Held,
     Conflict(usize),
     Taken(usize),
 }
 
-// What explain answers: refused with its number; so many codes of the clause and so many row numbers listed.
-#[derive(Clone, Copy)]
-pub enum Explaining {
-    ExplainRefused(u8),
-    Explained(usize, usize),
+// What explain answers: so many codes of the clause and so many row numbers are listed.
+#[derive(Clone, Copy, Debug, PartialEq, Eq)]
+pub struct Explained {
+    pub codes: usize,
+    pub numbers: usize,
 }
 
-// What open hands back: the header, which is the earlier one where opening is refused, and the answer.
-#[derive(Clone, Copy)]
-pub struct OpenOut {
+// What a call hands back: the header, which is the earlier one where the call is refused, and the answer.
+#[derive(Clone, Copy, Debug, PartialEq, Eq)]
+pub struct Reply<A> {
     pub header: Header,
-    pub answer: Opening,
+    pub answer: Result<A, Refusal>,
 }
 
-// What assume hands back: the header, one literal deeper where the literal was taken, and the answer.
-#[derive(Clone, Copy)]
-pub struct AssumeOut {
-    pub header: Header,
-    pub answer: Assuming,
-}
-
-// What back hands back: 0 or the number of its refusal, and the header.
-#[derive(Clone, Copy)]
-pub struct BackOut {
-    pub number: u64,
-    pub header: Header,
-}
-
-// The header of an opening that is open, with so many rows kept.
-fn opens_with(n: usize, m: usize, kept: usize) -> Header
-    ensures { result ≡ opens_with n m kept }
-{
-    Header {
-        open: 1,
-        n,
-        m,
-        kept,
-        depth: 0,
+impl<A> Reply<A> {
+    // The call is done.
+    fn done(header: Header, answer: A) -> Reply<A>
+        ensures { (result.header ≡ header) × (result.answer ≡ Ok answer) }
+    {
+        Reply {
+            header,
+            answer: Ok(answer),
+        }
     }
-}
 
-// The header of an unsatisfiable opening.
-fn nothing_open() -> Header
-    ensures { result ≡ nothing_open }
-{
-    Header {
-        open: 0,
-        n: 0,
-        m: 0,
-        kept: 0,
-        depth: 0,
-    }
-}
-
-// The header at another depth.
-fn at_depth(h: Header, depth: usize) -> Header
-    ensures { result ≡ at_depth h depth }
-{
-    Header {
-        open: h.open,
-        n: h.n,
-        m: h.m,
-        kept: h.kept,
-        depth,
+    // The call is refused.
+    fn refused(header: Header, why: Refusal) -> Reply<A>
+        ensures { (result.header ≡ header) × (result.answer ≡ Err why) }
+    {
+        Reply {
+            header,
+            answer: Err(why),
+        }
     }
 }
 
 // The checks of open, in order.
-fn judge_open(s: &[u8], store: usize, words: usize, literals: usize, rows: usize) -> Reading
-    ensures { result ≡ open_reading s.now store words literals rows }
+fn judge_open(
+    s: &[u8],
+    store: usize,
+    words: usize,
+    literals: usize,
+    rows: usize,
+) -> Result<Shape, Refusal>
+    ensures { IsOpenReading s.now store words literals rows result }
 {
-    let a = sheet::judge(s, store);
-    match a {
-        Reading::Refused(c) => Reading::Refused(c),
-        Reading::Read { n, m } => {
-            if words < SIZE {
-                return Reading::Refused(6);
-            }
-            if literals < n {
-                return Reading::Refused(7);
-            }
-            if rows < m {
-                return Reading::Refused(7);
-            }
-            Reading::Read { n, m }
-        }
+    let shape = sheet::judge(s, store)?;
+    if words < SIZE {
+        return Err(Refusal::FewWords);
     }
+    if literals < shape.n || rows < shape.m {
+        return Err(Refusal::ShortAnswer);
+    }
+    Ok(shape)
 }
 
 // The rows of the store go into the working buffer, and the list of the answer is made.
 fn open_all(
-    n: usize,
-    m: usize,
+    shape: Shape,
     store: &[u64],
     work: &mut [u64],
     literals: &mut [u64],
     rows: &mut [u64],
-) -> OpenOut
-    requires { (n ≤ max_vars) × (m ≤ max_rows) × (9 * m ≤ length store.now) × (size ≤ length work.old) × (n ≤ length literals.old) × (m ≤ length rows.old) }
-    ensures { RowsOpened n m store.now work.old literals.old rows.old result.header result.answer work.new literals.new rows.new }
+) -> Reply<Opening>
+    requires { (9 * shape.m ≤ length store.now) × (size ≤ length work.old) × (shape.n ≤ length literals.old) × (shape.m ≤ length rows.old) }
+    ensures { RowsOpened shape.n shape.m store.now work.old literals.old rows.old result.header result.answer work.new literals.new rows.new }
 {
-    let x = opening::open_rows(&mut work[..SIZE], store, m);
-    match x {
-        RowsCase::Open(k) => {
-            let count = lists::list_known(work, n, literals);
-            OpenOut {
-                header: opens_with(n, m, k),
-                answer: Opening::Opened(count),
-            }
+    match opening::open_rows(&mut work[..SIZE], store, shape.m) {
+        Ok(kept) => {
+            let count = lists::list_known(work, shape.n, literals);
+            let header = Header {
+                open: 1,
+                n: shape.n,
+                m: shape.m,
+                kept,
+                depth: 0,
+            };
+            Reply::done(header, Opening::Opened(count))
         }
-        RowsCase::Unsat(k) => {
-            let count = lists::list_rows(work, k, m, rows);
-            OpenOut {
-                header: nothing_open(),
-                answer: Opening::Unsatisfiable(count),
-            }
+        Err(Contradiction { row }) => {
+            let count = lists::list_rows(work, row, shape.m, rows);
+            Reply::done(Header::default(), Opening::Unsatisfiable(count))
         }
     }
 }
@@ -159,76 +124,49 @@ pub fn open(
     work: &mut [u64],
     literals: &mut [u64],
     rows: &mut [u64],
-) -> OpenOut
+) -> Reply<Opening>
     ensures { OpenPromise old s.now store.old work.old literals.old rows.old result.header result.answer store.new work.new literals.new rows.new }
 {
-    let a = judge_open(s, store.len(), work.len(), literals.len(), rows.len());
-    match a {
-        Reading::Refused(c) => OpenOut {
-            header: old,
-            answer: Opening::OpenRefused(c),
-        },
-        Reading::Read { n, m } => {
-            sheet::fill(s, n, m, store);
-            open_all(n, m, store, work, literals, rows)
+    match judge_open(s, store.len(), work.len(), literals.len(), rows.len()) {
+        Ok(shape) => {
+            sheet::fill(s, shape, store);
+            open_all(shape, store, work, literals, rows)
         }
+        Err(r) => Reply::refused(old, r),
     }
 }
 
 // A literal is assumed.
-pub fn assume(h: Header, work: &mut [u64], literals: &mut [u64], code: usize) -> AssumeOut
+pub fn assume(h: Header, work: &mut [u64], literals: &mut [u64], code: usize) -> Reply<Assuming>
     ensures { AssumePromise h work.old literals.old code result.header result.answer work.new literals.new }
 {
-    let number = judge::judge_assume(h, work.len(), literals.len(), code);
-    if number != 0 {
-        return AssumeOut {
-            header: h,
-            answer: Assuming::AssumeRefused(number),
-        };
+    if let Err(r) = judge::judge_assume(h, work.len(), literals.len(), code) {
+        return Reply::refused(h, r);
     }
-    let n = h.n;
+    let l = Literal::of(code);
     // Which variables have a value before.
-    let old = tableau::words_at(work, KNOWN);
-    let x = exchange::step(&mut work[..SIZE], h.kept, n, h.depth, code);
-    match x {
-        Offer::Held => AssumeOut {
-            header: h,
-            answer: Assuming::Held,
-        },
-        Offer::Conflict => AssumeOut {
-            header: h,
-            answer: Assuming::Conflict(code / 2),
-        },
+    let old: [u64; COEF_WORDS] = tableau::words_at(work, KNOWN);
+    match exchange::step(&mut work[..SIZE], h.kept, h.n, h.depth, l) {
+        Offer::Held => Reply::done(h, Assuming::Held),
+        Offer::Conflict => Reply::done(h, Assuming::Conflict(l.variable.number)),
         Offer::Taken => {
-            let count = lists::list_new(work, &old, code / 2, n, literals);
-            AssumeOut {
-                header: at_depth(h, h.depth + 1),
-                answer: Assuming::Taken(count),
-            }
+            let count = lists::list_new(work, &old, l.variable, h.n, literals);
+            let depth = h.depth + 1;
+            Reply::done(Header { depth, ..h }, Assuming::Taken(count))
         }
-        Offer::Stuck => AssumeOut {
-            header: h,
-            answer: Assuming::AssumeRefused(12),
-        },
+        Offer::Stuck => Reply::refused(h, Refusal::NoPartner),
     }
 }
 
 // Back to a depth: the first taken literals are kept, and the values are made anew from them.
-pub fn back_core(h: Header, work: &mut [u64], depth: usize) -> BackOut
-    ensures { BackPromise h work.old depth result.number result.header work.new }
+pub fn back_core(h: Header, work: &mut [u64], depth: usize) -> Reply<()>
+    ensures { BackPromise h work.old depth (answered result.answer) result.header work.new }
 {
-    let number = judge::judge_back(h, work.len(), depth);
-    if number != 0 {
-        return BackOut {
-            number: number as u64,
-            header: h,
-        };
+    if let Err(r) = judge::judge_back(h, work.len(), depth) {
+        return Reply::refused(h, r);
     }
     settle::restart(&mut work[..SIZE], h.kept, depth);
-    BackOut {
-        number: 0,
-        header: at_depth(h, depth),
-    }
+    Reply::done(Header { depth, ..h }, ())
 }
 
 // The value of a variable is explained.
@@ -238,22 +176,18 @@ pub fn explain(
     clause: &mut [u64],
     rows: &mut [u64],
     v: usize,
-) -> Explaining
+) -> Result<Explained, Refusal>
     ensures { ExplainPromise h work.now clause.old rows.old v result clause.new rows.new }
 {
-    let number = judge::judge_explain(h, work.len(), clause.len(), rows.len(), v);
-    if number != 0 {
-        return Explaining::ExplainRefused(number);
+    judge::judge_explain(h, work.len(), clause.len(), rows.len(), v)?;
+    let variable = Variable { number: v };
+    if !bit(work, KNOWN, variable) {
+        return Err(Refusal::Unexplained);
     }
-    let kept = h.kept;
-    if !bit(work, KNOWN, v) {
-        return Explaining::ExplainRefused(10);
-    }
-    let r = exchange::find(work, kept, v);
-    if r == kept {
-        return Explaining::ExplainRefused(10);
-    }
-    let codes = lists::list_clause(work, r, v, h.n, clause);
+    let Some(r) = exchange::find(work, h.kept, variable) else {
+        return Err(Refusal::Unexplained);
+    };
+    let codes = lists::list_clause(work, r, variable, h.n, clause);
     let numbers = lists::list_rows(work, r, h.m, rows);
-    Explaining::Explained(codes, numbers)
+    Ok(Explained { codes, numbers })
 }

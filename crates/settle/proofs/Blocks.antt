@@ -1,107 +1,123 @@
 -- ROWS TAKEN 64 AT A TIME: a word says which of them have a variable, and a loop goes over its ones.
 --   settled_rows                            a row that is settled keeps all rows
---   followed_idle, followed_apart           a row without the variable is followed as it is; one that is followed keeps the rows after it
---   Block Step q e x ws w rest              the loop: the rows up to the last one taken have been stepped over, the others are as they were
---   block_start, block-end                  before the loop, and when no one is left
---   block_row, block_has, block_next        the row of the top one is below e and has the variable; it is stepped over
+--   chain_taken                             a pass is a chain of other steps, if each row that was passed over or taken is one, after those before it
+--   Block post p q e x zs ws w rest         the loop over a block, which the pass from zs reached at ws: the rows up to the last one taken
+--                                           have been stepped over, the others are as they were
+--   block-init, block-end                   before it, and when no one is left
+--   Next, block-next                        the row of the top one has the variable and those before it have been stepped over; a step for it goes on
 -- Assumes nothing.
 use mathlib.Core.Path.{◌≡◌, refl, sym, ap, ◌∙◌}
 use mathlib.Core.List.{List}
 use mathlib.Core.Bool.{true, false, true≢false}
 use mathlib.Core.Logic.{inl, inr}
-use Prim.Native.Nat.{ℕ, suc, ◌+◌, ◌*◌, ◌-◌, ◌/◌, ◌%◌, ◌^◌, ◌<◌, ◌≤◌}
+use denote.Ref.{MutBor}
+use Prim.Native.Nat.{ℕ, zero, suc, ◌+◌, ◌-◌, ◌/◌, ◌^◌, ◌<◌, ◌≤◌}
 use native.Mathlib.Decide.{dec_lt}
 use native.Mathlib.Omega.{arith}
-use lib.Bits.{bit_xor}
-use lib.Count.{count_leading_zeros}
 use lib.ListN.{length, get_or}
+use Rattle.words.specs.Ones.{Top}
 use Rattle.words.specs.Words.{bit_of, bit_at}
 use Rattle.words.proofs.Bits.{bit_same}
-use Rattle.words.proofs.Ones.{zeros_lt, Left, left_start, left_end, left_seen, left_top, left_skip, left_next}
+use Rattle.words.proofs.Tops.{Left, left_start, left_end, left_seen, left_top, left_skip, left_next}
 use Rattle.tableau.specs.Layout.{max_vars, max_rows, row_at, known_at}
-use Rattle.tableau.specs.Buffer.{Span, Column}
-use Rattle.tableau.proofs.Runs.{span_idle}
-use Rattle.settle.specs.Values.{RowSettled, RowFollowed}
+use Rattle.tableau.specs.Buffer.{Chain, Column}
+use Rattle.tableau.proofs.Runs.{chain_idle}
+use Rattle.settle.specs.Values.{RowSettled, Leaves, RowTaken, passed, taken, StepApart}
 
 -- ---- steps that keep the rows
 pub settled_rows : (r : ℕ) (ws w : List ℕ) → RowSettled r ws w → (i : ℕ) → i < known_at → get_or w i 0 ≡ get_or ws i 0
 settled_rows r ws w (inl h) i l = ap (λ (z : List ℕ). get_or z i 0) h.0
 settled_rows r ws w (inr h) i l = h.1.rest i (inl l)
 
--- a row without the variable is followed as it is
-pub followed_idle : (e p : ℕ) (ws : List ℕ) (r : ℕ) (w : List ℕ) → r < e → bit_at ws (row_at r) p ≡ false → bit_at w (row_at r) p ≡ false → RowFollowed p r w w
-followed_idle e p ws r w l f g = inl (refl, g)
-
-pub followed_apart : (p r : ℕ) (ws w : List ℕ) → RowFollowed p r ws w → (i : ℕ) → row_at (suc r) ≤ i → i < known_at → get_or w i 0 ≡ get_or ws i 0
-followed_apart p r ws w (inl h) i o l = ap (λ (z : List ℕ). get_or z i 0) h.0
-followed_apart p r ws w (inr h) i o l = settled_rows r ws w h.1 i l
+-- ---- what the steps of a pass come to
+module _ (post : Leaves) (p : ℕ) (ws : List ℕ) (Want : ℕ → List ℕ → List ℕ → Type 0) where
+  pub chain_taken : (k : ℕ) (w : List ℕ)
+      → ((r : ℕ) (u : List ℕ) → r < k → Chain Want r ws u → bit_at u (row_at r) p ≡ false → Want r u u)
+      → ((r : ℕ) (x y : MutBor (List ℕ)) → r < k → length x.now ≡ length ws → Chain Want r ws x.now → bit_at x.now (row_at r) p ≡ true → post x r tt y → Want r x.now y.now)
+      → Chain (RowTaken post p) k ws w → Chain Want k ws w
+  chain_taken zero w off on c = c
+  chain_taken (suc k) w off on (v, e, c, s) = let d = chain_taken k v (λ r u l. off r u (omega arith)) (λ r x y l. on r x y (omega arith)) c in (v, e, d, go s d)
+    where
+      go : RowTaken post p k v w → Chain Want k ws v → Want k v w
+      go (passed f h) d = rw h (off k v (omega arith) d f)
+      go (taken x y g h f t) d = rw (sym g, sym h) (on k x y (omega arith) (ap length g ∙ e) (rw g d) (rw g f) t)
 
 -- ---- the loop over the ones
-pub record Block (Step : ℕ → List ℕ → List ℕ → Type 0) (q e x : ℕ) (ws w : List ℕ) (rest : ℕ) : Type 0 where
+pub record Block (post : Leaves) (p q e x : ℕ) (zs ws w : List ℕ) (rest : ℕ) : Type 0 where
   pub seen : ℕ
   pub upto : q + seen ≤ e
   pub ones : Left x seen rest
-  pub going : Span Step q seen ws w
+  pub going : Chain (RowTaken post p) (q + seen) zs w
   pub same : (i : ℕ) → row_at (q + seen) ≤ i → i < known_at → get_or w i 0 ≡ get_or ws i 0
-  pub len : length w ≡ length ws
+  pub len : length w ≡ length zs
 
-pub block_start : (Step : ℕ → List ℕ → List ℕ → Type 0) (q e x : ℕ) (ws : List ℕ) → q ≤ e → x < 2 ^ 64 → Block Step q e x ws ws x
-block_start Step q e x ws l f =
-    record { seen = 0; upto = omega arith; ones = left_start x f; going = refl; same = λ i a b. refl; len = refl }
+pub block-init : (post : Leaves) (p q e x : ℕ) (zs ws : List ℕ) → q ≤ e → x < 2 ^ 64 → length ws ≡ length zs → Chain (RowTaken post p) q zs ws → Block post p q e x zs ws ws x
+block-init post p q e x zs ws l fits len c =
+    let s : q + 0 ≡ q = omega arith in
+    record { seen = 0; upto = omega arith; ones = left_start x fits; going = rw s c; same = λ i f g. refl; len = len }
 
-module _ (Step : ℕ → List ℕ → List ℕ → Type 0) (q e p x : ℕ) (ws : List ℕ) (lp : p < max_vars) (wide : e ≤ q + 64) (rows : e ≤ max_rows) (col : Column ws q e p x)
-    (idle : (r : ℕ) (w : List ℕ) → r < e → bit_at ws (row_at r) p ≡ false → bit_at w (row_at r) p ≡ false → Step r w w)
-    (apart : (r : ℕ) (w v : List ℕ) → Step r w v → (i : ℕ) → row_at (suc r) ≤ i → i < known_at → get_or v i 0 ≡ get_or w i 0)
-    (w : List ℕ) (rest : ℕ) (b : Block Step q e x ws w rest) where
+pub record Next (post : Leaves) (p q e x : ℕ) (zs ws w : List ℕ) (i after : ℕ) : Type 0 where
+  pub row : q + i < e
+  pub has : bit_at w (row_at (q + i)) p ≡ true
+  pub before : Chain (RowTaken post p) (q + i) zs w
+  pub next : (y v : MutBor (List ℕ)) → y.now ≡ w → length v.now ≡ length w → post y (q + i) tt v → Block post p q e x zs ws v.now after
+
+module _ (post : Leaves) (p k q e x : ℕ) (zs ws w : List ℕ) (rest : ℕ) (lp : p < max_vars) (few : k ≤ max_rows) (wide : e ≤ q + 64) (rows : e ≤ k) (keeps : StepApart post k) (col : Column ws q e p x)
+    (b : Block post p q e x zs ws w rest) where
   -- the rows that are not yet stepped over are as they were
   as_was : (r : ℕ) → q + b.seen ≤ r → r < e → bit_at w (row_at r) p ≡ bit_at ws (row_at r) p
   as_was r l h = bit_same ws w (row_at r) (row_at r) p (b.same (row_at r + p / 64) (omega arith) (omega arith))
 
   -- over rows whose digits are none
-  on : (n : ℕ) → q + b.seen + n ≤ e → ((i : ℕ) → b.seen ≤ i → i < b.seen + n → bit_of x (63 - i) ≡ false) → Span Step q (b.seen + n) ws w
-  on n l h = span_idle Step q b.seen n ws w b.len (λ r f g. idle r w (omega arith) (off r f g) (as_was r f (omega arith) ∙ off r f g)) b.going
+  on : (n : ℕ) → q + n ≤ e → b.seen ≤ n → ((i : ℕ) → b.seen ≤ i → i < n → bit_of x (63 - i) ≡ false) → Chain (RowTaken post p) (q + n) zs w
+  on n l o h =
+      let s : q + b.seen + (n - b.seen) ≡ q + n = omega arith in
+      rw s at (chain_idle (RowTaken post p) (q + b.seen) (n - b.seen) zs w b.len (λ r f g. passed (as_was r f (omega arith) ∙ off r f (omega arith)) refl) b.going)
     where
-      off : (r : ℕ) → q + b.seen ≤ r → r < q + b.seen + n → bit_at ws (row_at r) p ≡ false
+      off : (r : ℕ) → q + b.seen ≤ r → r < q + n → bit_at ws (row_at r) p ≡ false
       off r f g =
           let s : r ≡ q + (r - q) = omega arith in
           ap (λ (y : ℕ). bit_at ws (row_at y) p) s ∙ sym (col.has (r - q) (omega arith) (omega arith)) ∙ h (r - q) (omega arith) (omega arith)
 
-  pub block-end : rest ≡ 0 → Span Step q (e - q) ws w
+  pub block-end : rest ≡ 0 → Chain (RowTaken post p) e zs w
   block-end z =
       let u = b.upto in
-      let s : b.seen + (e - (q + b.seen)) ≡ e - q = omega arith in
-      rw s at (on (e - (q + b.seen)) (omega arith) (λ i f g. left_end x b.seen rest b.ones z i f (omega arith)))
+      let s : q + (e - q) ≡ e = omega arith in
+      rw s at (on (e - q) (omega arith) (omega arith) (λ i f g. left_end x b.seen rest b.ones z i f (omega arith)))
 
-  module _ (pos : 0 < rest) where
-    abbrev top : ℕ
-    top = count_leading_zeros 64 rest
+  pub block-next : (i after : ℕ) → Top rest i after → Next post p q e x zs ws w i after
+  block-next i after t =
+      record {
+        row = row;
+        has = has;
+        before = before;
+        next = λ y v g l c.
+            let s : q + suc i ≡ suc (q + i) = omega arith in
+            record {
+              seen = suc i;
+              upto = omega (arith, row);
+              ones = left_next x b.seen rest i after b.ones t;
+              going = rw s (w, b.len, before, taken y v g refl has c);
+              same = λ j f h. keeps (q + i) y v (omega (arith, row)) c j (omega arith) h ∙ ap (λ z. get_or z j 0) g ∙ b.same j (omega (arith, seen)) h;
+              len = l ∙ b.len;
+            };
+      }
+    where
+      seen : b.seen ≤ i
+      seen = left_seen x b.seen rest i after b.ones t
 
-    top_lt : top < 64
-    top_lt = zeros_lt rest pos b.ones.fits
+      one : bit_of x (63 - i) ≡ true
+      one = left_top x b.seen rest i after b.ones t
 
-    pub block_row : q + count_leading_zeros 64 rest < e
-    block_row = go (dec_lt (q + top) e)
-      where
-        go : Dec (q + top < e) → q + top < e
-        go (yes h) = h
-        go (no h) = absurd (true≢false (sym (left_top x b.seen rest b.ones pos) ∙ col.none top top_lt (omega arith)))
+      row : q + i < e
+      row = go (dec_lt (q + i) e)
+        where
+          go : Dec (q + i < e) → q + i < e
+          go (yes h) = h
+          go (no h) = absurd (true≢false (sym one ∙ col.none i t.place (omega arith)))
 
-    pub block_has : bit_at w (row_at (q + count_leading_zeros 64 rest)) p ≡ true
-    block_has = as_was (q + top) (omega (arith, left_seen x b.seen rest b.ones pos)) block_row ∙ sym (col.has top top_lt block_row) ∙ left_top x b.seen rest b.ones pos
+      has : bit_at w (row_at (q + i)) p ≡ true
+      has = as_was (q + i) (omega (arith, seen)) row ∙ sym (col.has i t.place row) ∙ one
 
-    pub block_next : (v : List ℕ) → length v ≡ length w → Step (q + count_leading_zeros 64 rest) w v → Block Step q e x ws v (bit_xor rest (1 * 2 ^ (63 - count_leading_zeros 64 rest) % 2 ^ 64))
-    block_next v l st =
-        record {
-          seen = suc top;
-          upto = omega (arith, block_row);
-          ones = left_next x b.seen rest b.ones pos;
-          going = (w, b.len, before, st);
-          same = λ i f g. apart (q + top) w v st i (omega arith) g ∙ b.same i (omega (arith, left_seen x b.seen rest b.ones pos)) g;
-          len = l ∙ b.len;
-        }
-      where
-        before : Span Step q top ws w
-        before =
-            let f = left_seen x b.seen rest b.ones pos in
-            let s : b.seen + (top - b.seen) ≡ top = omega arith in
-            rw s at (on (top - b.seen) (omega (arith, block_row)) (λ i g h. left_skip x b.seen rest b.ones pos i g (omega arith)))
+      before : Chain (RowTaken post p) (q + i) zs w
+      before = on i (omega (arith, row)) seen (λ j g h. left_skip x b.seen rest i after b.ones t j g (omega arith))

@@ -2,7 +2,7 @@
 --   open_word ws r j      word j of the variables of row r that have no value, as the code makes it
 --   rest_word ws r p j    the same without variable p + 1: 0 in each word where p + 1 is the only one
 --   sole_more, word_bad   a word that passes the test, and that each would
---   overlay_none, -more   the words laid over one another; overlay_bad: they pass the first test
+--   overlay_more          one word more laid over the others; overlay_bad: they pass the first test
 -- Assumes nothing.
 use mathlib.Core.Path.{◌≡◌, sym, ap, ap₂, ◌∙◌}
 use mathlib.Core.List.{List}
@@ -30,9 +30,6 @@ module _ (ws : List ℕ) (r : ℕ) where
   open_bit : (i : ℕ) → bit_of (open_word (i / 64)) (63 - i % 64) ≡ lacks ws r i
   unfolding lacks bit_at
   open_bit i = bit_without (get_or ws (row_at r + i / 64) 0) (get_or ws (known_at + i / 64) 0) (63 - i % 64)
-
-  pub overlay_none : Overlay 0 ws r 0
-  overlay_none t l e = absurd (clash (bit_of 0 (63 - t)) e (zero_bits (63 - t)))
 
   pub overlay_more : (k x : ℕ) → Overlay k ws r x → Overlay (k + 1) ws r (bit_or x (open_word k))
   overlay_more k x h t l e = go (bool_dec (bit_of x (63 - t)))

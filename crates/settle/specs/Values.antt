@@ -4,16 +4,22 @@
 --   Sole ws r p x         whether variable p + 1 is the one variable of row r without a value
 --   Put p b ws w          variable p + 1 has been given the value b
 --   value_at ws r          the value that makes row r hold; Can: the row gives it to its basic variable
---   Ready ws r x          x is that variable, or 0 where the row gives nothing
+--   Ready ws r x          x is that variable, and nothing where the row gives nothing
 --   RowSettled r ws w     row r has given its basic variable a value, if it can
 --   Entry, EntrySet       an entry of the record that is a literal; its variable has been given its value
 --   Restarted k d ws w    the values have been made anew from the first d entries and the first k rows
 --   RowFollowed p r ws w  row r has been settled, if it has variable p + 1
 --   Followed k p b ws w   variable p + 1 has been given the value b, and the rows below k that have it have been settled
+--   Leaves                what a step leaves of a buffer when it is taken for a row
+--   RowTaken post p r ws w   it has been taken for row r, if that has variable p + 1
+--   StepCallable pre post p k ws   `pre` allows it for each row below k that has variable p + 1, once it was taken for those before
+--   StepApart post k      it keeps the rows after the one that it is taken for
 -- Assumes nothing.
-use Rattle.std.specs.Prelude.{◌≡◌, List, ◌⊎◌, Bool, true, false, not, ◌&&◌, ◌||◌, ℕ, ◌+◌, ◌*◌, ◌-◌, ◌<◌, ◌≤◌, length, get_or}
+use denote.Ref.{MutBor}
+use Rattle.std.specs.Prelude.{⊤, ◌≡◌, List, Option, None, Some, ◌⊎◌, Bool, true, false, not, ◌&&◌, ◌||◌, ℕ, suc, ◌+◌, ◌*◌, ◌-◌, ◌<◌, ◌≤◌, length, get_or}
 use Rattle.gf2.specs.Field.{◌⊕◌, xsum, same}
 use Rattle.gf2.specs.Answers.{variable, value}
+use Rattle.words.specs.declared.variable.Variable.{Variable}
 use Rattle.words.specs.Words.{bit_of, bit_at}
 use Rattle.tableau.specs.Layout.{max_vars, coef_words, row_at, known_at, truth_at, record_at}
 use Rattle.tableau.specs.Buffer.{Run, basic_at, parity_at, entry_at, Chain}
@@ -42,9 +48,9 @@ pub record Can (ws : List ℕ) (r : ℕ) : Type 0 where
   pub high : basic_at ws r ≤ max_vars
   pub alone : (i : ℕ) → i < max_vars → lacks ws r i ≡ same (basic_at ws r - 1) i
 
-pub record Ready (ws : List ℕ) (r x : ℕ) : Type 0 where
-  pub none : x ≡ 0 → Can ws r → ⊥
-  pub some : (x ≡ 0 → ⊥) → Can ws r × (x ≡ basic_at ws r)
+abbrev pub Ready : List ℕ → ℕ → Option Variable → Type 0
+Ready ws r None = Can ws r → ⊥
+Ready ws r (Some v) = Can ws r × (v.number ≡ basic_at ws r)
 
 abbrev pub RowSettled : ℕ → List ℕ → List ℕ → Type 0
 RowSettled r ws w = ((w ≡ ws) × (Can ws r → ⊥)) ⊎ (Can ws r × Put (basic_at ws r - 1) (value_at ws r) ws w)
@@ -70,3 +76,16 @@ pub record Followed (k p : ℕ) (b : Bool) (ws w : List ℕ) : Type 0 where
   pub begun : List ℕ
   pub given : Put p b ws begun
   pub settled : Chain (RowFollowed p) k begun w
+
+abbrev pub Leaves : Type 1
+Leaves = MutBor (List ℕ) → ℕ → ⊤ → MutBor (List ℕ) → Type 0
+
+pub data RowTaken (post : Leaves) (p r : ℕ) (ws w : List ℕ) : Type 0 where
+  passed : bit_at ws (row_at r) p ≡ false → w ≡ ws → RowTaken post p r ws w
+  taken : (x y : MutBor (List ℕ)) → x.now ≡ ws → y.now ≡ w → bit_at ws (row_at r) p ≡ true → post x r tt y → RowTaken post p r ws w
+
+abbrev pub StepCallable : (MutBor (List ℕ) → ℕ → Type 0) → Leaves → (p k : ℕ) → List ℕ → Type 0
+StepCallable pre post p k ws = (r : ℕ) (x : MutBor (List ℕ)) → r < k → length x.now ≡ length ws → Chain (RowTaken post p) r ws x.now → bit_at x.now (row_at r) p ≡ true → pre x r
+
+abbrev pub StepApart : Leaves → ℕ → Type 0
+StepApart post k = (r : ℕ) (x y : MutBor (List ℕ)) → r < k → post x r tt y → (i : ℕ) → row_at (suc r) ≤ i → i < known_at → get_or y.now i 0 ≡ get_or x.now i 0

@@ -2,28 +2,24 @@
 #![tactic(auto)]
 
 ghost use Rattle.std.specs.Prelude.{◌≡◌, ◌+◌, ◌*◌, ◌-◌, ◌<◌, ◌≤◌, length};
-ghost use Rattle.tableau.specs.Layout.{coef_words, max_vars, max_rows, max_taken, known_at, size};
-ghost use Rattle.tableau.specs.Buffer.{Run, Chain, Span};
-ghost use Rattle.settle.specs.Values.{Overlay, Sole, Put, value_at, Ready, RowSettled, EntrySet, Restarted, RowFollowed, Followed};
+ghost use Rattle.tableau.specs.Layout.{coef_words, max_rows, max_taken, known_at, size};
+ghost use Rattle.tableau.specs.Buffer.{Run, Chain};
+ghost use Rattle.settle.specs.Values.{Overlay, Sole, Put, value_at, Ready, RowSettled, EntrySet, Restarted, Followed};
+ghost use Rattle.settle.specs.Values.{RowTaken, StepCallable, StepApart};
 
-use tableau::{
-    CODES, COEF_WORDS, KNOWN, LAST, ROW, TRUTH, block_end, column, entry, load, words_at,
-};
-use words::{odd, own, without};
+use tableau::{CODES, COEF_WORDS, KNOWN, LAST, ROW, TRUTH, column, entry, load, words_at};
+use words::{Literal, Ones, Variable, odd, own, without};
 
-// Variable v gets the value b.
-pub fn put(work: &mut [u64], v: usize, b: bool)
-    requires { (size ≤ length work.old) × (0 < v) × (v ≤ max_vars) }
-    ensures { Put (v - 1) b work.old work.new }
+// The variable of l gets its value.
+pub fn put(work: &mut [u64], l: Literal)
+    requires { size ≤ length work.old }
+    ensures { Put (l.variable.number - 1) l.value work.old work.new }
 {
-    let p = v - 1;
-    let j = p / 64;
-    let k = KNOWN + j;
-    let t = TRUTH + j;
-    let mask = own(v, j);
-    let bit = if b { mask } else { 0 };
-    work[k] = work[k] | mask;
-    work[t] = work[t] | bit;
+    let (w, _) = l.variable.place();
+    let mask = own(l.variable, w);
+    let bit = if l.value { mask } else { 0 };
+    work[KNOWN + w] |= mask;
+    work[TRUTH + w] |= bit;
 }
 
 // The variables of row r without a value, its eight words laid over one another.
@@ -33,38 +29,35 @@ fn overlay(work: &[u64], r: usize) -> u64
 {
     let a = ROW * r;
     let mut over = 0;
-    let mut j = 0;
-    while j < COEF_WORDS {
-        over = over | without(work[a + j], work[KNOWN + j]);
-        j += 1;
+    for j in 0..COEF_WORDS {
+        over |= without(work[a + j], work[KNOWN + j]);
     }
     over
 }
 
 // Whether v is the one variable of row r without a value, word by word.
-fn alone(work: &[u64], r: usize, v: usize) -> bool
-    requires { (size ≤ length work.now) × (r < max_rows) × (0 < v) × (v ≤ max_vars) }
-    ensures { Sole work.now r (v - 1) result }
+fn alone(work: &[u64], r: usize, v: Variable) -> bool
+    requires { (size ≤ length work.now) × (r < max_rows) }
+    ensures { Sole work.now r (v.number - 1) result }
 {
     let a = ROW * r;
-    let mut j = 0;
-    while j < COEF_WORDS {
+    for j in 0..COEF_WORDS {
         let open = without(work[a + j], work[KNOWN + j]);
         if open ^ own(v, j) != 0 {
             return false;
         }
-        j += 1;
     }
     true
 }
 
 // Whether v is the one variable of row r without a value. Most rows have another at another place of its word, which one test tells.
-fn sole(work: &[u64], r: usize, v: usize) -> bool
-    requires { (size ≤ length work.now) × (r < max_rows) × (0 < v) × (v ≤ max_vars) }
-    ensures { Sole work.now r (v - 1) result }
+fn sole(work: &[u64], r: usize, v: Variable) -> bool
+    requires { (size ≤ length work.now) × (r < max_rows) }
+    ensures { Sole work.now r (v.number - 1) result }
 {
     let over = overlay(work, r);
-    let mine = own(v, (v - 1) / 64);
+    let (w, _) = v.place();
+    let mine = own(v, w);
     if without(over, mine) != 0 {
         return false;
     }
@@ -80,31 +73,34 @@ fn value(work: &[u64], r: usize) -> bool
     if work[ROW * r + LAST] % 2 == 1 { !b } else { b }
 }
 
-// The basic variable of row r if it alone has no value in its row, else 0.
-fn ready(work: &[u64], r: usize) -> usize
+// The basic variable of row r, if it alone has no value in its row.
+fn ready(work: &[u64], r: usize) -> Option<Variable>
     requires { (size ≤ length work.now) × (r < max_rows) }
     ensures { Ready work.now r result }
 {
     let x = work[ROW * r + LAST];
     if x < 2 {
-        return 0;
+        return None;
     }
     if x >= CODES {
-        return 0;
+        return None;
     }
-    let u = (x / 2) as usize;
-    if sole(work, r, u) { u } else { 0 }
+    let v = Variable {
+        number: (x / 2) as usize,
+    };
+    if sole(work, r, v) { Some(v) } else { None }
 }
 
 // Row r is settled: where its basic variable is its only one without a value, the row gives it one.
+// Inlined: else a loop over rows waits, before it finds the next one, for what this writes.
+#[inline(always)]
 pub fn settle_row(work: &mut [u64], r: usize)
     requires { (size ≤ length work.old) × (r < max_rows) }
     ensures { RowSettled r work.old work.new }
 {
-    let v = ready(work, r);
-    if v != 0 {
-        let b = value(work, r);
-        put(work, v, b);
+    if let Some(variable) = ready(work, r) {
+        let value = value(work, r);
+        put(work, Literal { variable, value });
     }
 }
 
@@ -113,10 +109,8 @@ fn settle(work: &mut [u64], k: usize)
     requires { (size ≤ length work.old) × (k ≤ max_rows) }
     ensures { Chain RowSettled k work.old work.new }
 {
-    let mut r = 0;
-    while r < k {
+    for r in 0..k {
         settle_row(work, r);
-        r += 1;
     }
 }
 
@@ -125,11 +119,7 @@ fn clear_values(work: &mut [u64])
     requires { size ≤ length work.old }
     ensures { Run known_at (2 * coef_words) (λ i. 0) work.old work.new }
 {
-    let mut j = 0;
-    while j < 2 * COEF_WORDS {
-        work[KNOWN + j] = 0;
-        j += 1;
-    }
+    work[KNOWN..KNOWN + 2 * COEF_WORDS].fill(0);
 }
 
 // The variable of entry j of the record gets its value, if the entry is a literal.
@@ -140,8 +130,7 @@ fn put_entry(work: &mut [u64], j: usize)
     let code = entry(work, j);
     if code >= 2 {
         if code < CODES {
-            let v = (code / 2) as usize;
-            put(work, v, code % 2 == 0);
+            put(work, Literal::of(code as usize));
         }
     }
 }
@@ -151,10 +140,8 @@ fn put_entries(work: &mut [u64], d: usize)
     requires { (size ≤ length work.old) × (d ≤ max_taken) }
     ensures { Chain EntrySet d work.old work.new }
 {
-    let mut j = 0;
-    while j < d {
+    for j in 0..d {
         put_entry(work, j);
-        j += 1;
     }
 }
 
@@ -168,29 +155,27 @@ pub fn restart(work: &mut [u64], k: usize, d: usize)
     settle(work, k);
 }
 
-// Each row from q to below e, 64 at most, that has the variable v is settled.
-fn follow_block(work: &mut [u64], q: usize, e: usize, v: usize)
-    requires { (size ≤ length work.old) × (q < e) × (e ≤ q + 64) × (q + 64 ≤ max_rows) × (0 < v) × (v ≤ max_vars) }
-    ensures { Span (RowFollowed (v - 1)) q (e - q) work.old work.new }
+// `step` is taken for each row below k that has the variable v, in order.
+pub fn for_rows_with<F: Fn(&mut [u64], usize)>(work: &mut [u64], k: usize, v: Variable, step: F)
+    requires small { (size ≤ length work.old) × (k ≤ max_rows) }
+    requires callable { StepCallable (F.pre step) (F.post step) (v.number - 1) k work.old }
+    requires apart { StepApart (F.post step) k }
+    ensures { Chain (RowTaken (F.post step) (v.number - 1)) k work.old work.new }
 {
-    let mut rest = column(work, q, e, v);
-    while rest != 0 {
-        let i = u64::leading_zeros(rest) as usize;
-        settle_row(work, q + i);
-        rest = rest ^ (1 << (63 - i));
+    for block in 0..k.div_ceil(64) {
+        let q = 64 * block;
+        let e = (q + 64).min(k);
+        for i in Ones(column(work, q, e, v)) {
+            step(work, q + i);
+        }
     }
 }
 
-// Variable v gets the value b, and each row below k that has it is settled.
-pub fn follow(work: &mut [u64], k: usize, v: usize, b: bool)
-    requires { (size ≤ length work.old) × (k ≤ max_rows) × (0 < v) × (v ≤ max_vars) }
-    ensures { Followed k (v - 1) b work.old work.new }
+// The variable of l gets its value, and each row below k that has it is settled.
+pub fn follow(work: &mut [u64], k: usize, l: Literal)
+    requires { (size ≤ length work.old) × (k ≤ max_rows) }
+    ensures { Followed k (l.variable.number - 1) l.value work.old work.new }
 {
-    put(work, v, b);
-    let mut q = 0;
-    while q < k {
-        let e = block_end(q, k);
-        follow_block(work, q, e, v);
-        q = e;
-    }
+    put(work, l);
+    for_rows_with(work, k, l.variable, |work, r| settle_row(work, r));
 }

@@ -1,3 +1,4 @@
+pub mod Parts
 pub mod Reader
 pub mod Rewriter
 pub mod Store

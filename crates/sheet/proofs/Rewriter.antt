@@ -5,7 +5,7 @@
 -- Assumes nothing.
 use mathlib.Core.List.{List, [], ◌∷◌, ◌++◌}
 use mathlib.Core.Path.{◌≡◌, refl, sym, ap, ap₂, ◌∙◌}
-use Prim.Native.Nat.{ℕ, ◌^◌, ◌≤◌, ◌<◌}
+use Prim.Native.Nat.{ℕ, suc, ◌-◌, ◌^◌, ◌≤◌, ◌<◌}
 use native.Mathlib.Omega.{arith}
 use borrow.Author.Tests.{lt-ltb, le-ltb}
 use lib.Dec.{ltb}
@@ -16,33 +16,34 @@ use Rattle.format.proofs.Bytes.{bytes_same, byte_take}
 use Rattle.format.proofs.Packed.{front_bits, back_bytes}
 use Rattle.format.proofs.Undo.{write_read}
 use Rattle.format.specs.Bits.{bits_of, put_at}
-use Rattle.format.specs.Refusals.{check, refusal}
+use Rattle.format.specs.Refusals.{check, refusal, number, Answers}
 use Rattle.format.specs.Sheet.{n_of, m_of, store_words, sheet_bits, reader}
-use Rattle.sheet.proofs.Reader.{number_reading, read_accepted, read_refused}
-use Rattle.sheet.specs.Reader.{number, said, reading, stored}
+use Rattle.std.specs.Prelude.{Result, Ok, Err}
+use Rattle.format.proofs.Answering.{number_pos, answers_same}
+use Rattle.format.specs.declared.Refusal.{Refusal}
+use Rattle.format.specs.declared.Refusal.TheVariants.{ShortAnswer}
+use Rattle.cursor.proofs.Shapes.{shapes_same}
+use Rattle.sheet.specs.Reader.{IsReading, stored}
+use Rattle.cursor.specs.Shape.{HasNumbers}
 use Rattle.sheet.specs.Rewriter.{rewriter, copied, Rewrites}
-use Rattle.sheet.specs.declared.Reading.{Reading}
-use Rattle.sheet.specs.declared.Reading.TheVariants.{Refused, Read}
+use Rattle.cursor.specs.declared.shape.Shape.{Shape}
 
 module _ (s : List ℕ) (words bytes : ℕ) where
-  pub again_refused : (c : ℕ) → reading s words ≡ Refused c → Refused c ≡ said (refusal (rewriter s words bytes)) (n_of s) (m_of s)
-  again_refused c e =
-      let p = read_refused s words c e in
-      ap Refused p.2 ∙ sym (ap (λ (k : ℕ). said k (n_of s) (m_of s)) (append-some (reader s words) (check 7 (ltb bytes (length s)) ∷ []) p.0 p.1))
+  pub again_refused : (r : Refusal) → IsReading s words (Err r) → Answers (refusal (rewriter s words bytes)) (HasNumbers (n_of s) (m_of s)) (Err r)
+  again_refused r e =
+      let some = append-some (reader s words) (check 7 (ltb bytes (length s)) ∷ []) (number r - 1) in
+      let p = number_pos r in
+      let q : number r ≡ suc (number r - 1) = omega (arith, p) in
+      some (e ∙ q) ∙ sym q
 
-  passed : (n m : ℕ) → reading s words ≡ Read n m → refusal (rewriter s words bytes) ≡ refusal (check 7 (ltb bytes (length s)) ∷ [])
-  passed n m e = append-none (reader s words) (check 7 (ltb bytes (length s)) ∷ []) refl (sym (number_reading s words) ∙ ap number e)
+  passed : (h : Shape) → IsReading s words (Ok h) → refusal (rewriter s words bytes) ≡ refusal (check 7 (ltb bytes (length s)) ∷ [])
+  passed h e = append-none (reader s words) (check 7 (ltb bytes (length s)) ∷ []) refl e.0
 
-  pub again_short : (n m : ℕ) → reading s words ≡ Read n m → bytes < length s → Refused 7 ≡ said (refusal (rewriter s words bytes)) (n_of s) (m_of s)
-  again_short n m e h =
-      let f : refusal (rewriter s words bytes) ≡ 7 = passed n m e ∙ simp (lt-ltb bytes (length s) h) in
-      sym (ap (λ (k : ℕ). said k (n_of s) (m_of s)) f)
+  pub again_short : (h : Shape) → IsReading s words (Ok h) → bytes < length s → Answers (refusal (rewriter s words bytes)) (HasNumbers (n_of s) (m_of s)) (Err ShortAnswer)
+  again_short h e l = passed h e ∙ simp (lt-ltb bytes (length s) l)
 
-  pub again_read : (n m : ℕ) → reading s words ≡ Read n m → length s ≤ bytes → Read n m ≡ said (refusal (rewriter s words bytes)) (n_of s) (m_of s)
-  again_read n m e h =
-      let f : refusal (rewriter s words bytes) ≡ 0 = passed n m e ∙ simp (le-ltb bytes (length s) h) in
-      let k = read_accepted s words n m e in
-      ap₂ Read k.n_is k.m_is ∙ sym (ap (λ (j : ℕ). said j (n_of s) (m_of s)) f)
+  pub again_read : (h : Shape) → IsReading s words (Ok h) → length s ≤ bytes → Answers (refusal (rewriter s words bytes)) (HasNumbers (n_of s) (m_of s)) (Ok h)
+  again_read h e l = (passed h e ∙ simp (le-ltb bytes (length s) l), e.1)
 
 pub same_bytes : (s rest old new : List ℕ) (room n m : ℕ) → Accepted s room n m → length s ≤ length old → length new ≡ length old
     → ((i : ℕ) → get_or s i 0 < 2 ^ 8) → ((i : ℕ) → get_or old i 0 < 2 ^ 8) → ((i : ℕ) → get_or new i 0 < 2 ^ 8)
@@ -56,7 +57,7 @@ same_bytes s rest old new room n m k hl hk hs ho hn e =
     ap (λ (j : ℕ). drop j new) k.size ∙ back_bytes n m ws old new k.n_small (omega (arith, k.size)) hk ho hn e ∙ ap (λ (j : ℕ). drop j old) (sym k.size) in
     sym (take-append-drop (length s) new) ∙ ap₂ (λ (x y : List ℕ). x ++ y) front back
 
-pub again_determined : (s old was new new' out out' : List ℕ) (r r' : Reading) → Rewrites s old was r new out → Rewrites s old was r' new' out' → (r ≡ r') × (new ≡ new') × (out ≡ out')
-again_determined s old was new new' out out' r r' p q =
-    let e : r ≡ r' = p.answer ∙ sym q.answer in
-    (e, p.store ∙ ap (λ (x : Reading). stored x s old) e ∙ sym q.store, p.bytes ∙ ap (λ (x : Reading). copied x s was) e ∙ sym q.bytes)
+pub again_determined : (s old was new new' out out' : List ℕ) (a a' : Result Shape Refusal) → Rewrites s old was a new out → Rewrites s old was a' new' out' → (a ≡ a') × (new ≡ new') × (out ≡ out')
+again_determined s old was new new' out out' a a' p q =
+    let e : a ≡ a' = answers_same (refusal (rewriter s (length old) (length was))) (HasNumbers (n_of s) (m_of s)) (shapes_same (n_of s) (m_of s)) a a' p.answer q.answer in
+    (e, p.store ∙ ap (λ (x : Result Shape Refusal). stored x s old) e ∙ sym q.store, p.bytes ∙ ap (λ (x : Result Shape Refusal). copied x s was) e ∙ sym q.bytes)

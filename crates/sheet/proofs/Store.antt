@@ -11,6 +11,7 @@ use native.Mathlib.Omega.{arith}
 use lib.Dec.{eqb}
 use lib.ListN.{drop, length, take, get_or}
 use lib.Seq.{get_or-drop}
+use Rattle.std.specs.Prelude.{Ok}
 use Rattle.format.proofs.Packed.{bit_packed}
 use Rattle.format.proofs.Runs.{get_or-take_past, get_or_pad}
 use Rattle.format.proofs.Undo.{row_packed, row_parity, store_row}
@@ -20,7 +21,7 @@ use Rattle.sheet.proofs.Reader.{read_accepted}
 use Rattle.sheet.specs.Reader.{Reads}
 use Rattle.words.specs.Store.{StoreRead}
 use Rattle.words.specs.Words.{digit, bit_at}
-use Rattle.sheet.specs.declared.Reading.TheVariants.{Read}
+use Rattle.cursor.specs.declared.shape.Shape.{Shape}
 
 -- the two readings of a digit
 digit_odd : (v : ℕ) → digit (v % 2) ≡ odd v
@@ -50,7 +51,13 @@ one_bit [] = refl
 one_bit (true ∷ l) = refl
 one_bit (false ∷ l) = refl
 
-module _ (s old store : List ℕ) (n m : ℕ) (p : Reads s old (Read n m) store) where
+module _ (s old store : List ℕ) (h : Shape) (p : Reads s old (Ok h) store) where
+  abbrev n : ℕ
+  n = h.n
+
+  abbrev m : ℕ
+  m = h.m
+
   -- row q of the store, with what stands behind it
   row_is : (q : ℕ) → q < m → (tail : List ℕ) × (drop (9 * q) store ≡ row_words n (drop (q * (n + 1)) (drop 19 (bits_of s))) ++ tail)
   row_is q h =
@@ -60,9 +67,9 @@ module _ (s old store : List ℕ) (n m : ℕ) (p : Reads s old (Read n m) store)
   parity_is : (q : ℕ) (h : q < m) → get_or store (9 * q + 8) 0 ≡ get_or (row_words n (drop (q * (n + 1)) (drop 19 (bits_of s))) ++ (row_is q h).0) 8 0
   parity_is q h = sym (get_or-drop (9 * q) store 8 0) ∙ ap (λ (ws : List ℕ). get_or ws 8 0) (row_is q h).1
 
-  pub store_read : StoreRead n m store (λ q. row_of n (drop (q * (n + 1)) (drop 19 (bits_of s))))
+  pub store_read : StoreRead h.n h.m store (λ q. row_of h.n (drop (q * (h.n + 1)) (drop 19 (bits_of s))))
   store_read =
-      let k = read_accepted s (length old) n m (sym p.answer) in
+      let k = read_accepted s (length old) h p.answer in
       record {
         coefs = λ q h i hi.
             let bs : List Bool = drop (q * (n + 1)) (drop 19 (bits_of s)) in

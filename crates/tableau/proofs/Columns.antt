@@ -1,5 +1,5 @@
 -- WHICH OF SOME ROWS HAVE A VARIABLE, as the digits of one word.
---   gathered_none, gathered_two     no row; two rows, as the code reads them
+--   gathered_two                    two rows, as the code reads them
 --   gathered_join, gathered_drop    n rows more; the digits of the rows from e on dropped
 --   gathered_small, column_done     a word of n digits at most; the digits moved up to the top
 -- Assumes nothing.
@@ -10,29 +10,26 @@ use native.Mathlib.Nat.{div-one, zero-lt-suc, mod-lt, mul_comm, mul-le-mul, le_r
 use native.Mathlib.Decide.{dec_lt}
 use native.Mathlib.Omega.{arith}
 use lib.ListN.{get_or}
-use lib.Pow.{pow_pos, pow_mono, pow-add, shl_exact, shr_lt, shr-shr, high, low}
+use lib.Pow.{pow_mono, pow-add, shl_exact, shr_lt, shr-shr, high, low}
 use Rattle.words.specs.Words.{digit, bit_of, bit_at}
-use Rattle.words.proofs.Ones.{high_digit, low_digit, digit_below}
+use Rattle.words.proofs.Tops.{high_digit, low_digit, digit_below}
 use Rattle.tableau.specs.Layout.{row_at}
 use Rattle.tableau.specs.Buffer.{Gathered, Column}
 
-pub gathered_none : (ws : List ℕ) (q p : ℕ) → Gathered ws q q p 0
-gathered_none ws q p = record { low = pow_pos (q - q); digits = λ i l. absurd (omega arith) }
-
-gathered_one : (ws : List ℕ) (r p a : ℕ) → a ≡ row_at r + p / 64 → Gathered ws r (r + 1) p (get_or ws a 0 / 2 ^ (63 - p % 64) % 2)
+gathered_one : (ws : List ℕ) (r p a d : ℕ) → a ≡ row_at r + p / 64 → d ≡ 63 - p % 64 → Gathered ws r (r + 1) p (get_or ws a 0 / 2 ^ d % 2)
 unfolding bit_at
-gathered_one ws r p a e =
+gathered_one ws r p a d e g =
     record {
       low = let n : r + 1 - r ≡ 1 = omega arith in rw n (mod-lt word (zero-lt-suc 1));
       digits = λ i l.
           let n : r + 1 - suc (r + i) ≡ 0 = omega arith in
           let f : a ≡ row_at (r + i) + p / 64 = omega arith in
           let m : word % 2 % 2 ≡ word % 2 = omega arith in
-          ap (bit_of (word % 2)) n ∙ ap (λ (y : ℕ). digit (y % 2)) (div-one (word % 2)) ∙ ap digit m ∙ ap (λ (y : ℕ). bit_of (get_or ws y 0) (63 - p % 64)) f;
+          ap (bit_of (word % 2)) n ∙ ap (λ (y : ℕ). digit (y % 2)) (div-one (word % 2)) ∙ ap digit m ∙ ap₂ (λ (y z : ℕ). bit_of (get_or ws y 0) z) f g;
     }
   where
     word : ℕ
-    word = get_or ws a 0 / 2 ^ (63 - p % 64)
+    word = get_or ws a 0 / 2 ^ d
 
 pub gathered_small : (ws : List ℕ) (q r p x n : ℕ) → r - q ≤ n → Gathered ws q r p x → x < 2 ^ n
 gathered_small ws q r p x n l g = lt_of_lt_of_le g.low (pow_mono l)
@@ -72,8 +69,8 @@ gathered_join ws q r s n p x y l e g h =
         let m : r + (q + i - r) ≡ q + i = omega arith in
         lower n x y less (s - suc (q + i)) (omega arith) ∙ rw (← e, m) at (h.digits (q + i - r) (omega arith))
 
-pub gathered_two : (ws : List ℕ) (r p a b : ℕ) → a ≡ row_at r + p / 64 → b ≡ row_at (r + 1) + p / 64 → Gathered ws r (r + 2) p (2 * (get_or ws a 0 / 2 ^ (63 - p % 64) % 2) + get_or ws b 0 / 2 ^ (63 - p % 64) % 2)
-gathered_two ws r p a b e f = gathered_join ws r (r + 1) (r + 2) 1 p _ _ (omega arith) (omega arith) (gathered_one ws r p a e) (gathered_one ws (r + 1) p b f)
+pub gathered_two : (ws : List ℕ) (r p a b d : ℕ) → a ≡ row_at r + p / 64 → b ≡ row_at (r + 1) + p / 64 → d ≡ 63 - p % 64 → Gathered ws r (r + 2) p (2 * (get_or ws a 0 / 2 ^ d % 2) + get_or ws b 0 / 2 ^ d % 2)
+gathered_two ws r p a b d e f g = gathered_join ws r (r + 1) (r + 2) 1 p _ _ (omega arith) (omega arith) (gathered_one ws r p a d e g) (gathered_one ws (r + 1) p b d f g)
 
 pub gathered_drop : (ws : List ℕ) (q e r p x : ℕ) → q ≤ e → e ≤ r → Gathered ws q r p x → Gathered ws q e p (x / 2 ^ (r - e))
 gathered_drop ws q e r p x a b g =

@@ -1,12 +1,13 @@
 -- LOOPS THAT WRITE A RUN OF WORDS, and steps one after another.
 --   run_none, run_more      nothing written yet; one word more
---   run_slice               words copied to the front of a list; slice_at: from an equal place
---   slice_bit, slice_sum    their bits, and the sum of the bits that two such lists share
+--   slice_at                words read from an equal place
+--   slice_bit, slice_sum    the bits of words that were read, and the sum of the bits that two such lists share
 --   chain_more              one step more
 --   chain_span              a chain of a steps, then a span of j steps from a on, is a chain of a + j steps
---   span_two, span_idle     two steps; a span goes on over steps that change nothing
+--   span_two                two steps
+--   chain_idle              a chain goes on over steps that change nothing
 -- Assumes nothing.
-use mathlib.Core.Path.{◌≡◌, refl, sym, ap, ap₂, ◌∙◌}
+use mathlib.Core.Path.{◌≡◌, refl, ap, ap₂, ◌∙◌}
 use mathlib.Core.List.{List}
 use mathlib.Core.Bool.{◌&&◌}
 use mathlib.Core.Logic.{◌⊎◌, inl, inr}
@@ -39,9 +40,6 @@ run_more off j want ws w x r l e =
     rest i (inl h) = get_or-set_other w (off + j) i x 0 (λ (z : i ≡ off + j). absurd (omega arith)) ∙ r.rest i (inl h)
     rest i (inr h) = get_or-set_other w (off + j) i x 0 (λ (z : i ≡ off + j). absurd (omega arith)) ∙ r.rest i (inr (omega arith))
 
-pub run_slice : (k at : ℕ) (ws zs r : List ℕ) → Run 0 k (λ j. get_or ws (at + j) 0) zs r → Slice k ws at r
-run_slice k at ws zs r h = record { word = λ j l. ap (λ (x : ℕ). get_or r x 0) (sym (zero-add j)) ∙ h.done j l }
-
 pub slice_bit : (k at : ℕ) (ws r : List ℕ) → Slice k ws at r → (i : ℕ) → i < k * 64 → bit_at r 0 i ≡ bit_at ws at i
 slice_bit k at ws r h i l = bit_same ws r at 0 i (ap (λ (x : ℕ). get_or r x 0) (zero-add (i / 64)) ∙ h.word (i / 64) (omega arith))
 
@@ -61,8 +59,8 @@ chain_span Step a (suc j) zs ws w e c (v, f, s, t) = let n : a + suc j ≡ suc (
 pub span_two : (Step : ℕ → List ℕ → List ℕ → Type 0) (a : ℕ) (ws v w : List ℕ) → length v ≡ length ws → Step a ws v → Step (a + 1) v w → Span Step a 2 ws w
 span_two Step a ws v w e s t = let n : a + 0 ≡ a = omega arith in (v, e, (ws, refl, refl, rw n s), t)
 
-pub span_idle : (Step : ℕ → List ℕ → List ℕ → Type 0) (a j n : ℕ) (ws w : List ℕ) → length w ≡ length ws → ((r : ℕ) → a + j ≤ r → r < a + j + n → Step r w w) → Span Step a j ws w → Span Step a (j + n) ws w
-span_idle Step a j zero ws w e h s = let m : j + 0 ≡ j = omega arith in rw m s
-span_idle Step a j (suc n) ws w e h s =
-    let m : j + suc n ≡ suc (j + n) = omega arith in
-    rw m (w, e, span_idle Step a j n ws w e (λ r f g. h r f (omega arith)) s, h (a + (j + n)) (omega arith) (omega arith))
+pub chain_idle : (Step : ℕ → List ℕ → List ℕ → Type 0) (a n : ℕ) (ws w : List ℕ) → length w ≡ length ws → ((r : ℕ) → a ≤ r → r < a + n → Step r w w) → Chain Step a ws w → Chain Step (a + n) ws w
+chain_idle Step a zero ws w e h c = let m : a + 0 ≡ a = omega arith in rw m c
+chain_idle Step a (suc n) ws w e h c =
+    let m : a + suc n ≡ suc (a + n) = omega arith in
+    rw m (w, e, chain_idle Step a n ws w e (λ r f g. h r f (omega arith)) c, h (a + n) (omega arith) (omega arith))

@@ -1,11 +1,13 @@
 // The working buffer, and the operations that read and write its rows and its record. specs/Layout.antt has the table of its words.
+// It is a slice of `size` words or more, here and in the crates above: an array of so many would ask more of those who lend it.
+// A row is a number below `max_rows`: loops count rows, and a type of a row would be made anew at each turn.
 #![tactic(auto)]
 
 ghost use Rattle.std.specs.Prelude.{◌≡◌, ◌+◌, ◌*◌, ◌-◌, ◌<◌, ◌≤◌, min, length, get_or};
-ghost use Rattle.tableau.specs.Layout.{coef_words, from_words, max_vars, max_rows, max_taken, row_at, from_at, home_step, size};
+ghost use Rattle.tableau.specs.Layout.{coef_words, from_words, max_rows, max_taken, row_at, from_at, home_step, size};
 ghost use Rattle.tableau.specs.Buffer.{Run, Slice, Added, entry_at, home_at, Recorded, Homed, Gathered, Column};
 
-use words::{sum, sum_from};
+use words::{Variable, sum};
 
 // The most variables.
 const MAX_VARS: u64 = 512;
@@ -34,26 +36,22 @@ const HOME_STEP: u64 = 4294967296;
 // The words that a call hands on; those behind the record are not touched.
 pub const SIZE: usize = 4096;
 
-// `count` words of `source` from place `start` go to `target` from place `at`.
-fn copy(target: &mut [u64], at: usize, source: &[u64], start: usize, count: usize)
-    requires { (at + count ≤ length target.old) × (start + count ≤ length source.now) }
-    ensures { Run at count (λ j. get_or source.now (start + j) 0) target.old target.new }
+// The W words from place `at`.
+pub fn words_at<const W: usize>(work: &[u64], at: usize) -> [u64; W]
+    requires { at + W ≤ length work.now }
+    ensures { Slice W work.now at result }
 {
-    let mut j = 0;
-    while j < count {
-        target[at + j] = source[start + j];
-        j += 1;
-    }
+    let mut out = [0u64; W];
+    out.copy_from_slice(&work[at..at + W]);
+    out
 }
 
-// The eight words from place `at`.
-pub fn words_at(work: &[u64], at: usize) -> [u64; 8]
-    requires { at + coef_words ≤ length work.now }
-    ensures { Slice coef_words work.now at result }
+// The words from place `at` on become `words`.
+fn put_words<const W: usize>(work: &mut [u64], at: usize, words: [u64; W])
+    requires { at + W ≤ length work.old }
+    ensures { Run at W (λ j. get_or words.entry j 0) work.old work.new }
 {
-    let mut out = [0u64; 8];
-    copy(&mut out, 0, work, at, COEF_WORDS);
-    out
+    work[at..at + W].copy_from_slice(&words);
 }
 
 // The coefficients of row r.
@@ -69,25 +67,7 @@ pub fn store(work: &mut [u64], r: usize, row: [u64; 8])
     requires { (size ≤ length work.old) × (r < max_rows) }
     ensures { Run (row_at r) coef_words (λ j. get_or row (0 + j) 0) work.old work.new }
 {
-    copy(work, ROW * r, &row, 0, COEF_WORDS);
-}
-
-// The provenance of row r.
-fn load_from(work: &[u64], r: usize) -> [u64; 4]
-    requires { (size ≤ length work.now) × (r < max_rows) }
-    ensures { Slice from_words work.now (from_at r) result }
-{
-    let mut out = [0u64; 4];
-    copy(&mut out, 0, work, ROW * r + FROM, FROM_WORDS);
-    out
-}
-
-// The provenance of row r becomes `from`.
-fn store_from(work: &mut [u64], r: usize, from: [u64; 4])
-    requires { (size ≤ length work.old) × (r < max_rows) }
-    ensures { Run (from_at r) from_words (λ j. get_or from (0 + j) 0) work.old work.new }
-{
-    copy(work, ROW * r + FROM, &from, 0, FROM_WORDS);
+    put_words(work, ROW * r, row);
 }
 
 // Row `from` is added into row `to`, which keeps its basic variable.
@@ -96,11 +76,14 @@ pub fn add_row(work: &mut [u64], from: usize, to: usize)
     ensures { Added from to work.old work.new }
 {
     let row = sum(load(work, to), load(work, from));
-    let rows = sum_from(load_from(work, to), load_from(work, from));
+    let rows = sum::<FROM_WORDS>(
+        words_at(work, ROW * to + FROM),
+        words_at(work, ROW * from + FROM),
+    );
     let x = work[ROW * to + LAST];
     let y = work[ROW * from + LAST];
     store(work, to, row);
-    store_from(work, to, rows);
+    put_words(work, ROW * to + FROM, rows);
     work[ROW * to + LAST] = x / 2 * 2 + (x % 2 + y % 2) % 2;
 }
 
@@ -123,62 +106,53 @@ pub fn set_entry(work: &mut [u64], j: usize, code: u64)
 }
 
 // The home of variable v: on a state of the module, its row if it is basic; of any other variable it says nothing.
-pub fn home(work: &[u64], v: usize) -> u64
-    requires { (size ≤ length work.now) × (0 < v) × (v ≤ max_vars) }
-    ensures { result ≡ home_at work.now v }
+pub fn home(work: &[u64], v: Variable) -> u64
+    requires { size ≤ length work.now }
+    ensures { result ≡ home_at work.now v.number }
 {
-    work[RECORD + (v - 1)] / HOME_STEP
+    work[RECORD + (v.number - 1)] / HOME_STEP
 }
 
 // Row r becomes the home of variable v.
-pub fn set_home(work: &mut [u64], v: usize, r: usize)
-    requires { (size ≤ length work.old) × (0 < v) × (v ≤ max_vars) × (r < max_rows) }
-    ensures { Homed v r work.old work.new }
+pub fn set_home(work: &mut [u64], v: Variable, r: usize)
+    requires { (size ≤ length work.old) × (r < max_rows) }
+    ensures { Homed v.number r work.old work.new }
 {
-    let at = RECORD + (v - 1);
+    let at = RECORD + (v.number - 1);
     let x = work[at];
     work[at] = x % HOME_STEP + HOME_STEP * (r as u64);
 }
 
-// Where the block of rows that begins at q ends: at q + 64, or at k if that comes first.
-pub fn block_end(q: usize, k: usize) -> usize
-    requires { (q < k) × (k ≤ max_rows) }
-    ensures { result ≡ min k (q + 64) }
-{
-    if k - q < 64 { k } else { q + 64 }
-}
-
 // Which of rows r and r + 1 have the variable v: a digit each, the lowest for row r + 1.
-fn two(work: &[u64], r: usize, v: usize) -> u64
-    requires { (size ≤ length work.now) × (r + 2 ≤ max_rows) × (0 < v) × (v ≤ max_vars) }
-    ensures { Gathered work.now r (r + 2) (v - 1) result }
+fn two(work: &[u64], r: usize, v: Variable) -> u64
+    requires { (size ≤ length work.now) × (r + 2 ≤ max_rows) }
+    ensures { Gathered work.now r (r + 2) (v.number - 1) result }
 {
-    let p = v - 1;
-    let d = 63 - p % 64;
-    let a = ROW * r + p / 64;
+    let (w, d) = v.place();
+    let a = ROW * r + w;
     2 * ((work[a] >> d) % 2) + (work[a + ROW] >> d) % 2
 }
 
 // Which of the four rows from r on have the variable v: a digit each, the lowest for row r + 3.
-fn four(work: &[u64], r: usize, v: usize) -> u64
-    requires { (size ≤ length work.now) × (r + 4 ≤ max_rows) × (0 < v) × (v ≤ max_vars) }
-    ensures { Gathered work.now r (r + 4) (v - 1) result }
+fn four(work: &[u64], r: usize, v: Variable) -> u64
+    requires { (size ≤ length work.now) × (r + 4 ≤ max_rows) }
+    ensures { Gathered work.now r (r + 4) (v.number - 1) result }
 {
     4 * two(work, r, v) + two(work, r + 2, v)
 }
 
 // Which rows from q to below e, 64 at most, have the variable v: a digit each, the top one for row q. They are read without a branch,
 // since which of them have it cannot be foreseen, and by eights: up to seven rows from e on are read too, which q + 64 ≤ max_rows allows.
-pub fn column(work: &[u64], q: usize, e: usize, v: usize) -> u64
-    requires { (size ≤ length work.now) × (q < e) × (e ≤ q + 64) × (q + 64 ≤ max_rows) × (0 < v) × (v ≤ max_vars) }
-    ensures { Column work.now q e (v - 1) result }
+pub fn column(work: &[u64], q: usize, e: usize, v: Variable) -> u64
+    requires { (size ≤ length work.now) × (q < e) × (e ≤ q + 64) × (q + 64 ≤ max_rows) }
+    ensures { Column work.now q e (v.number - 1) result }
 {
+    let eights = (e - q).div_ceil(8);
     let mut x = 0;
-    let mut r = q;
-    while r < e {
+    for i in 0..eights {
+        let r = q + 8 * i;
         x = 16 * (16 * x + four(work, r, v)) + four(work, r + 4, v);
-        r += 8;
     }
     // The digits of the rows from e on go, and the others move up.
-    (x >> (r - e)) << (64 - (e - q))
+    (x >> (8 * eights - (e - q))) << (64 - (e - q))
 }

@@ -14,10 +14,11 @@ use mathlib.Core.Bool.{Bool, true, false, not, ◌&&◌, ◌||◌, cond, true≢
 use mathlib.Core.Logic.{◌⊎◌, inl, inr, ◌≢◌}
 use mathlib.Core.List.{List, [], ◌∷◌}
 use Prim.Native.Nat.{ℕ, zero, suc, ◌+◌, ◌*◌, ◌-◌, ◌/◌, ◌%◌, ◌^◌, ◌<◌, ◌≤◌, suc-le-suc, max}
-use native.Mathlib.Nat.{zero-lt-suc, mod-lt, div-one, zero-div, div-eq_of_lt, div-eq_of_lt-le, le_refl, lt_of_lt_of_le, le_of_eq, le-div_iff_mul-le, div-lt_iff_lt-mul, mul-div_cancel, mul-mod_left, mul_comm, one-mul, pow-suc, mod-eq_of_lt, suc_inj, zero-add, suc-ne-zero, not-suc-le-zero}
+use native.Mathlib.Nat.{zero-lt-suc, mod-lt, div-one, zero-div, div-eq_of_lt, div-eq_of_lt-le, le_refl, lt_of_lt_of_le, le_of_eq, le-div_iff_mul-le, div-lt_iff_lt-mul, mul-div_cancel, mul-mod_left, mul_comm, one-mul, pow-suc, mod-eq_of_lt, suc_inj, zero-add}
 use native.Mathlib.Numerals.{one-add}
 use native.Mathlib.Decide.{dec_lt}
 use native.Mathlib.Omega.{arith}
+use Rattle.std.specs.Prelude.{None}
 use lib.Arith.{lt-one}
 use lib.Dec.{eqb}
 use lib.Bits.{bit_and, bit_or, bit_xor, xor_shr, xor_mod, xor_zero_r, and_shr, and_mod, or_shr, or_step}
@@ -27,7 +28,7 @@ use lib.Pow.{pow_pos, pow_mono, pow-lt, pow-add, shr-shr}
 use borrow.Author.Tests.{eq-eqb, ne_eqb}
 use Rattle.gf2.specs.Field.{◌⊕◌, same}
 use Rattle.gf2.proofs.Sums.{same_dec, same_refl, same_ne}
-use Rattle.words.specs.Words.{digit, bit_of, bit_at, xor_words, own_word, Lowest}
+use Rattle.words.specs.Words.{digit, bit_of, bit_at, xor_words, own_word, IsLowest, Lowest}
 
 -- ---- a bit of a word made by an operator
 digit_xor : (p q : ℕ) → p < 2 → q < 2 → digit (bit_xor p q) ≡ digit p ⊕ digit q
@@ -219,8 +220,8 @@ none_before : (ws : List ℕ) (w : ℕ) → ((j : ℕ) → j < w → get_or ws j
 unfolding bit_at
 none_before ws w h i l = ap (λ (x : ℕ). bit_of x (63 - i % 64)) (ap (λ (x : ℕ). get_or ws x 0) (zero-add (i / 64)) ∙ h (i / 64) (omega arith)) ∙ zero_bits (63 - i % 64)
 
-pub lowest_none : (k : ℕ) (ws : List ℕ) → ((j : ℕ) → j < k → get_or ws j 0 ≡ 0) → Lowest k ws 0
-lowest_none k ws h = record { upto = omega arith; none = λ e. none_before ws k h; some = λ i e. absurd (suc-ne-zero i (sym e)); under = λ i l. absurd (not-suc-le-zero l) }
+pub lowest_none : (k : ℕ) (ws : List ℕ) → ((j : ℕ) → j < k → get_or ws j 0 ≡ 0) → Lowest k ws None
+lowest_none k ws h = none_before ws k h
 
 -- a word that is not 0 has its top bit, and none above it
 module _ (ws : List ℕ) (w : ℕ) (pos : 0 < get_or ws w 0) (fits : get_or ws w 0 < 2 ^ 64) where
@@ -249,13 +250,13 @@ module _ (ws : List ℕ) (w : ℕ) (pos : 0 < get_or ws w 0) (fits : get_or ws w
       let h : j < 64 = omega arith in
       bit_front ws w j h ∙ ap (λ (x : ℕ). digit (x % 2)) (div-eq_of_lt (lt_of_lt_of_le top.3 (pow_mono g)))
 
-  pub lowest_found : (k : ℕ) → w < k → ((j : ℕ) → j < w → get_or ws j 0 ≡ 0) → Lowest k ws (w * 64 + count_leading_zeros 64 (get_or ws w 0) + 1)
+  pub lowest_found : (k : ℕ) → w < k → ((j : ℕ) → j < w → get_or ws j 0 ≡ 0) → IsLowest k ws (w * 64 + count_leading_zeros 64 (get_or ws w 0) + 1)
   lowest_found k l before =
       let e = top.1 in
       record {
-        upto = omega arith;
-        none = λ z. absurd (omega arith);
-        some = λ i z. ap (bit_at ws 0) (let q : i ≡ w * 64 + zeros = omega arith in q) ∙ bit_top;
+        first = omega arith;
+        last = omega arith;
+        has = ap (bit_at ws 0) (let q : w * 64 + zeros + 1 - 1 ≡ w * 64 + zeros = omega arith in q) ∙ bit_top;
         under = λ i h. under i h (dec_lt i (w * 64));
       }
     where

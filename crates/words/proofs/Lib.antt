@@ -1,4 +1,4 @@
 pub mod Bits
 pub mod Parity
 pub mod Fills
-pub mod Ones
+pub mod Tops

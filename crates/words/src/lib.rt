@@ -5,32 +5,22 @@ ghost use Rattle.std.specs.Prelude.{◌≡◌, ◌&&◌, ◌+◌, ◌-◌, ◌<�
 ghost use Rattle.std.specs.Int.Bits.{bit_and, bit_xor};
 ghost use Rattle.gf2.specs.Field.{xsum};
 ghost use Rattle.words.specs.Words.{bit_at, xor_words, own_word, Lowest};
+ghost use Rattle.words.specs.Ones.{TakesTop, left};
 
-// The words of b are added into those of a, of which there are as many.
-fn add_into(a: &mut [u64], b: &[u64])
-    requires { length a.old ≡ length b.now }
-    ensures { a.new ≡ xor_words a.old b.now }
+pub use literal::Literal;
+pub use variable::Variable;
+
+mod literal;
+mod variable;
+
+// The sum of two rows, or of their provenance.
+pub fn sum<const W: usize>(a: [u64; W], b: [u64; W]) -> [u64; W]
+    ensures { result ≡ xor_words a.entry b.entry }
 {
-    for i in 0..b.len() {
-        a[i] = a[i] ^ b[i];
+    let mut out = a;
+    for i in 0..W {
+        out[i] ^= b[i];
     }
-}
-
-// The sum of two rows.
-pub fn sum(a: [u64; 8], b: [u64; 8]) -> [u64; 8]
-    ensures { result ≡ xor_words a b }
-{
-    let mut out = a;
-    add_into(&mut out, &b);
-    out
-}
-
-// The sum of the provenance of two rows.
-pub fn sum_from(a: [u64; 4], b: [u64; 4]) -> [u64; 4]
-    ensures { result ≡ xor_words a b }
-{
-    let mut out = a;
-    add_into(&mut out, &b);
     out
 }
 
@@ -38,39 +28,34 @@ pub fn sum_from(a: [u64; 4], b: [u64; 4]) -> [u64; 4]
 pub fn odd(row: [u64; 8], truth: [u64; 8]) -> bool
     ensures { result ≡ xsum 512 (λ i. bit_at row 0 i && bit_at truth 0 i) }
 {
-    let mut n: u64 = 0;
-    let mut i: usize = 0;
-    while i < 8 {
-        n += u64::count_ones(row[i] & truth[i]) as u64;
-        i += 1;
+    let mut ones = 0;
+    for i in 0..8 {
+        ones += (row[i] & truth[i]).count_ones();
     }
-    n % 2 == 1
+    ones % 2 == 1
 }
 
-// The lowest variable of a row, or 0.
-pub fn lowest(row: [u64; 8]) -> usize
+// The lowest variable of a row.
+pub fn lowest(row: [u64; 8]) -> Option<Variable>
     ensures { Lowest 8 row result }
 {
-    let mut i: usize = 0;
-    'found: loop {
-        if i == 8 {
-            return 0;
+    for (i, word) in row.iter().enumerate() {
+        if *word != 0 {
+            return Some(Variable {
+                number: i * 64 + word.leading_zeros() as usize + 1,
+            });
         }
-        if row[i] != 0 {
-            break 'found;
-        }
-        i += 1;
     }
-    i * 64 + u64::leading_zeros(row[i]) as usize + 1
+    None
 }
 
 // Word j of the row that has the variable v alone.
-pub fn own(v: usize, j: usize) -> u64
-    requires { (0 < v) × (v ≤ 512) × (j < 8) }
-    ensures { result ≡ own_word (v - 1) j }
+pub fn own(v: Variable, j: usize) -> u64
+    requires { j < 8 }
+    ensures { result ≡ own_word (v.number - 1) j }
 {
-    let p = v - 1;
-    if p / 64 == j { 1 << (63 - p % 64) } else { 0 }
+    let (w, d) = v.place();
+    if w == j { 1 << d } else { 0 }
 }
 
 // The ones of x that y does not have.
@@ -81,10 +66,31 @@ pub fn without(x: u64, y: u64) -> u64
 }
 
 // Whether the eight words from place a have the bit of variable v.
-pub fn bit(ws: &[u64], a: usize, v: usize) -> bool
-    requires { (a + 8 ≤ length ws.now) × (0 < v) × (v ≤ 512) }
-    ensures { result ≡ bit_at ws.now a (v - 1) }
+pub fn bit(ws: &[u64], a: usize, v: Variable) -> bool
+    requires { a + 8 ≤ length ws.now }
+    ensures { result ≡ bit_at ws.now a (v.number - 1) }
 {
-    let p = v - 1;
-    (ws[a + p / 64] >> (63 - p % 64)) % 2 == 1
+    let (w, d) = v.place();
+    (ws[a + w] >> d) % 2 == 1
+}
+
+// The places of a word's ones, the top one first: place 0 is the top bit.
+#[derive(Clone, Drop)]
+pub struct Ones(pub u64);
+
+impl Iterator for Ones {
+    type Item = usize;
+
+    ghost next_gives = { TakesTop };
+
+    ghost remaining = { left };
+
+    fn next(&mut self) -> Option<usize> {
+        if self.0 == 0 {
+            return None;
+        }
+        let i = self.0.leading_zeros() as usize;
+        self.0 ^= 1 << (63 - i);
+        Some(i)
+    }
 }

@@ -1,12 +1,9 @@
 use Rattle.std.proofs.Common.{ap, arith, ℕ, ◌%◌, ◌-◌, ◌/◌, ◌^◌, ◌∙◌}
-use Rattle.bits.proofs.Masks.{mask, one_le_shl}
+use Rattle.bits.proofs.Masks.{mask}
 use Rattle.bits.proofs.piece.Goals as goal
-
-pub overflow_sub-result-3 : goal.overflow_sub-result-3
-overflow_sub-result-3 c = one_le_shl c.args.t (omega arith)
 
 pub returns : goal.returns
 returns c =
     let a = c.args in
-    mask (c.wide.result / 2 ^ (8 - a.off - a.t)) a.t (omega arith)
-    ∙ ap (λ (x : ℕ). x / 2 ^ (8 - a.off - a.t) % 2 ^ a.t) c.wide.ensures
+    mask (c.from.result / 2 ^ (8 - a.off - a.t)) a.t (omega arith)
+    ∙ ap (λ (x : ℕ). x / 2 ^ (8 - a.off - a.t) % 2 ^ a.t) c.from.ensures

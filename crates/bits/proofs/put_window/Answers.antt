@@ -1,15 +1,7 @@
-use Rattle.std.proofs.Common.{ap, arith, get_or, mod-lt, pow_pos, rules, ℕ, ◌%◌, ◌*◌, ◌+◌, ◌-◌, ◌/◌, ◌^◌, ◌∙◌}
-use Rattle.bits.proofs.Masks.{mask, one_le_shl}
+use Rattle.std.proofs.Common.{ap, arith, get_or, ℕ, ◌%◌, ◌*◌, ◌+◌, ◌-◌, ◌/◌, ◌^◌, ◌∙◌}
+use Rattle.bits.proofs.Masks.{mask}
 use Rattle.bits.proofs.Windows.{window_put}
 use Rattle.bits.proofs.put_window.Goals as goal
-
-pub overflow_sub-off : goal.overflow_sub-off
-overflow_sub-off c = one_le_shl c.args.off (omega arith)
-
-pub patched-last-requires : goal.patched-last-requires
-patched-last-requires c =
-    let a = c.args in
-    (search rules, rw (mask a.v a.off (omega arith)) (mod-lt a.v (pow_pos a.off)))
 
 pub returns : goal.returns
 returns c =

@@ -1,4 +1,4 @@
-use Rattle.std.proofs.Common.{ap, arith, div-one, length-set, refl, rules, ℕ, ◌*◌, ◌+◌, ◌-◌, ◌/◌, ◌^◌, ◌∙◌, ◌≡◌}
+use Rattle.std.proofs.Common.{ap, arith, div-one, length-set, refl, ℕ, ◌*◌, ◌+◌, ◌-◌, ◌/◌, ◌^◌, ◌∙◌, ◌≡◌}
 use Rattle.format.proofs.Bytes.{length-bits_of}
 use Rattle.format.proofs.Puts.{put_at-none, word_put_step}
 use Rattle.format.specs.Bits.{bits_n, bits_of, put_at}
@@ -6,15 +6,14 @@ use Rattle.bits.proofs.put_word.Goals as goal
 
 pub loop-i-init : goal.loop-i-init
 unfolding bits_n
-loop-i-init c = (search rules, refl, put_at-none (bits_of c.args.s.now) (8 * c.args.q))
+loop-i-init c = (refl, put_at-none (bits_of c.args.s.now) (8 * c.args.q))
 
 pub loop-i-preserved : goal.loop-i-preserved
 loop-i-preserved c =
     let a = c.args in
     let l = c.loop-i in (
-      search rules,
-      length-set l.s (a.q + l.i) c.low_byte-x.result ∙ l.invariant.1,
-      word_put_step (bits_of a.s.now) l.s a.q l.i a.v c.low_byte-x.result (omega (arith, length-bits_of a.s.now)) (omega arith) (omega arith) l.invariant.2 c.low_byte-x.ensures,
+      length-set l.s (a.q + l.i) c.low_byte.result ∙ l.invariant.0,
+      word_put_step (bits_of a.s.now) l.s a.q l.i a.v c.low_byte.result (omega (arith, length-bits_of a.s.now)) (omega arith) (omega arith) l.invariant.1 c.low_byte.ensures,
     )
 
 pub returns : goal.returns
@@ -22,6 +21,6 @@ returns c =
     let a = c.args in
     let l = c.loop-i in
     let e : l.i ≡ 8 = omega arith in
-    l.invariant.2
+    l.invariant.1
     ∙ ap (λ (k : ℕ). put_at (bits_of a.s.now) (8 * a.q) (bits_n (8 * k) (a.v / 2 ^ (64 - 8 * k)))) e
     ∙ ap (λ (x : ℕ). put_at (bits_of a.s.now) (8 * a.q) (bits_n 64 x)) (div-one a.v)

@@ -1,13 +1,6 @@
-use Rattle.std.proofs.Common.{ap, sym}
-use Rattle.capi.specs.Exports.{explain_numbers}
+use Rattle.std.proofs.Common.{Err, ap}
 use Rattle.capi.proofs.parity_explain.Goals as goal
 
-pub returns-in-ExplainRefused : goal.returns-in-ExplainRefused
-returns-in-ExplainRefused c =
-    let a = c.explain-a in
-    record { answer = a.result; promise = a.ensures; numbers = ap explain_numbers (sym c.in-ExplainRefused.is) }
-
-pub returns-in-Explained : goal.returns-in-Explained
-returns-in-Explained c =
-    let a = c.explain-a in
-    record { answer = a.result; promise = a.ensures; numbers = ap explain_numbers (sym c.in-Explained.is) }
+-- in full, so that the edit is refused at the struct
+pub returns-in-Err : goal.returns-in-Err
+returns-in-Err c = record { answer = Err c.in-Err.r; promise = c.in-Err.ensures; numbers = ap (λ k. record { number = k; clause = 0; rows = 0 }) c.number.ensures }

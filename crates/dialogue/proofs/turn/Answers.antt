@@ -1,5 +1,4 @@
-use Rattle.std.proofs.Common.{arith, rules}
-use Rattle.dialogue.proofs.Cases.{last_kind}
+use Rattle.std.proofs.Common.{arith}
 use Rattle.dialogue.specs.Steps.{ends, assumes, backs, explains}
 use Rattle.dialogue.proofs.turn.Goals as goal
 
@@ -13,4 +12,4 @@ pub returns-in-2 : goal.returns-in-2
 returns-in-2 c = backs c.in-2.is c.back.ensures
 
 pub returns-in_default : goal.returns-in_default
-returns-in_default c = explains (last_kind _ (omega arith) (search rules) (search rules) (search rules)) c.explain.ensures
+returns-in_default c = explains (omega arith) c.explain.ensures

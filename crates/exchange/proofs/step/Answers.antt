@@ -1,21 +1,19 @@
-use Rattle.std.proofs.Common.{arith, inl, inr, refl, sym, ◌∙◌}
-use Rattle.gf2.proofs.Search.{beq_eq}
-use Rattle.exchange.proofs.Steps.{beq_other, stuck_still}
+use Rattle.std.proofs.Common.{◌≡◌, Bool, ◌-◌, refl, sym, ◌∙◌, subst}
+use Rattle.gf2.specs.Answers.{variable, code}
+use Rattle.words.specs.Words.{bit_at}
+use Rattle.tableau.specs.Layout.{truth_at}
+use Rattle.gf2.proofs.Literals.{code_variable, code_value}
+use Rattle.exchange.proofs.Steps.{beq_other}
 use Rattle.exchange.proofs.step.Goals as goal
 
-pub returns-then-bit-code : goal.returns-then-bit-code
-returns-then-bit-code c = (refl, sym c.bit.ensures ∙ c.if-bit.true, sym c.bit-then-bit.ensures ∙ beq_eq _ _ c.if-bit-code.true)
-
+-- in full, so that the edit that answers a conflict as held is refused at the two values
 pub returns-then-bit : goal.returns-then-bit
-returns-then-bit c = (refl, sym c.bit.ensures ∙ c.if-bit.true, λ z. beq_other _ _ c.if-bit-code.false (c.bit-then-bit.ensures ∙ z))
-
-pub returns-then-d-n : goal.returns-then-d-n
-returns-then-d-n c = (refl, sym c.bit.ensures ∙ c.if-bit.false, inl (omega arith))
-
-pub returns-then-take : goal.returns-then-take
-returns-then-take c = (sym c.bit.ensures ∙ c.if-bit.false, omega arith, rw c.if-take.true at c.take.ensures)
-
-pub returns-else-take : goal.returns-else-take
-returns-else-take c =
-    let f = rw c.if-take.false at c.take.ensures in
-    (stuck_still _ _ _ _ _ f, sym c.bit.ensures ∙ c.if-bit.false, inr f)
+returns-then-bit c =
+    let l = c.args.l in
+    let v = code_variable l.variable.number l.value in
+    let b = code_value l.variable.number l.value in
+    let known = rw (← v) at c.bit.ensures in
+    let truth = rw (← v) at c.bit-then-bit.ensures in
+    let apart = subst (λ (x : Bool). x ≡ l.value → ⊥) truth (beq_other c.bit-then-bit.result l.value c.if-bit-l.false) in
+    let held = bit_at c.args.work.now truth_at (variable (code l.variable.number l.value) - 1) in
+    (refl, sym known ∙ c.if-bit.true, subst (λ (x : Bool). held ≡ x → ⊥) (sym b) apart)

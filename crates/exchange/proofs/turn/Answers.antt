@@ -1,42 +1,24 @@
-use Rattle.std.proofs.Common.{arith, inl, refl, rules, ◌+◌, ◌-◌, ◌/◌, ◌∙◌, ◌≡◌}
+use Rattle.std.proofs.Common.{arith, inl, rules, ◌+◌, ◌-◌, ◌/◌, ◌∙◌}
 use Rattle.words.proofs.Bits.{bit_same}
 use Rattle.tableau.specs.Layout.{row_at}
-use Rattle.tableau.proofs.Runs.{chain_span}
+use Rattle.settle.proofs.Blocks.{chain_taken}
 use Rattle.exchange.specs.Steps.{RowTurned}
-use Rattle.exchange.proofs.Passes.{pivot_stays}
+use Rattle.exchange.proofs.Passes.{turned_idle, turned_after}
 use Rattle.exchange.proofs.turn.Goals as goal
 
-pub loop-q-init : goal.loop-q-init
-loop-q-init c = (omega arith, omega arith, λ h. omega arith, refl, refl)
-
-pub turn_block-requires : goal.turn_block-requires
-turn_block-requires c =
-    let a = c.args in
-    let l = c.loop-q in
-    let f = c.put in
-    let h = l.invariant.2 (omega arith) in (
-      search rules,
-      omega arith,
-      omega arith,
-      omega arith,
-      omega arith,
-      omega arith,
-      omega arith,
-      pivot_stays a.p a.u (omega arith) (a.u - 1) (omega arith) l.q _ l.work l.invariant.3
-          ∙ bit_same _ _ (row_at a.p) (row_at a.p) (a.u - 1) (f.ensures.rest (row_at a.p + (a.u - 1) / 64) (inl (omega arith)))
-          ∙ c.requires.7,
-    )
-
-pub loop-q-preserved : goal.loop-q-preserved
-loop-q-preserved c =
-    let l = c.loop-q in
-    let b = c.block_end-e in
-    let t = c.turn_block in
-    let n : l.q + (b.result - l.q) ≡ b.result = omega arith in
-    (l.invariant.0, omega arith, λ h. omega (arith, l.invariant.2 (omega arith)), rw n at (chain_span (RowTurned _ _) l.q (b.result - l.q) _ _ _ l.invariant.4 l.invariant.3 t.ensures), t.auto.work ∙ l.invariant.4)
+pub for_rows_with-requires-clause-apart : goal.for_rows_with-requires-clause-apart
+for_rows_with-requires-clause-apart c = λ r x y l t. turned_after c.args.p c.args.u.number r x.now y.now (search rules)
 
 pub returns : goal.returns
 returns c =
-    let e : c.loop-q.q ≡ c.args.k = omega arith in
-    let p = c.put in
-    record { begun = p.new.work; given = p.ensures; turned = rw e at c.loop-q.invariant.3 }
+    let a = c.args in
+    let u = a.u.number in
+    let p = row_at a.p in
+    -- row p has u when the pass begins
+    let has = bit_same _ c.put.new.work p p (u - 1) (c.put.ensures.rest (p + (u - 1) / 64) (inl (omega arith))) ∙ c.requires.3 in
+    record {
+      begun = c.put.new.work;
+      given = c.put.ensures;
+      turned = chain_taken _ (u - 1) _ (RowTurned a.p u) a.k _ (λ r w l d f. turned_idle a.p u (omega arith) (omega arith) r _ w has d f) (λ r x y l e d f t. search rules)
+          c.for_rows_with.ensures;
+    }

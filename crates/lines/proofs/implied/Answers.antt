@@ -1,14 +1,15 @@
--- The four texts, one after another, are the line; its count is the length of its list.
-use Rattle.std.proofs.Common.{length-take-le}
-use Rattle.lines.specs.Lines.{spaced}
+-- The four texts, one after another, are the line.
+use Rattle.std.proofs.Common.{rules}
+use Rattle.lines.specs.Lines.{Put, Said, spaced, text}
 use Rattle.lines.proofs.Puts.{put_then, put_text, flat}
 use Rattle.lines.proofs.implied.Goals as goal
 
 pub returns : goal.returns
 unfolding spaced
 returns c =
-    let all =
-    put_then c.put_bytes-a.ensures
-    (put_then c.put_number-b.ensures.put
-    (put_then c.put_numbers-c.ensures.put c.put_bytes.ensures)) in
-    put_text all (simp (flat, length-take-le c.args.count c.args.codes.now c.requires.count_in_bounds))
+    let end = c.bytes-2.new.self in
+    let said : Put c.args.out.now 0 (text (Said.implied c.args.codes.now)) end.out.now end.at = put_text
+    (put_then c.bytes.ensures.put
+    (put_then c.number.ensures.put
+    (put_then c.numbers.ensures.put c.bytes-2.ensures.put))) (simp flat) in
+    search rules

@@ -5,4 +5,5 @@ use Rattle.lists.proofs.list_clause.Goals as goal
 
 pub returns : goal.returns
 returns c =
-    rw (c.literal.ensures ∙ ap (code c.args.v) c.bit.ensures) at (listed_cons c.args.n _ c.args.out.now _ _ c.literal.result (omega arith) c.list_others.ensures)
+    rw (c.code.ensures ∙ ap (code c.args.v.number) c.bit-value.ensures)
+    at (listed_cons c.args.n _ c.args.out.now _ _ c.code.result (omega arith) c.list_others.ensures)

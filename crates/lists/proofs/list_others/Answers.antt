@@ -1,30 +1,15 @@
-use Rattle.std.proofs.Common.{arith, get_or, ◌*◌, ◌+◌}
-use Rattle.tableau.specs.Layout.{truth_at}
-use Rattle.lists.specs.Listing.{items}
-use Rattle.lists.proofs.Picking.{scanned_grows}
-use Rattle.lists.proofs.ByWord.{others, Step, scan_start, scan_end, other_step}
+use Rattle.std.proofs.Common.{arith, rules}
+use Rattle.lists.proofs.Lists.{same_others, few_others}
 use Rattle.lists.proofs.list_others.Goals as goal
-use Rattle.lists.proofs.list_others.Goals.{After-list_word-arg-1}
 
--- the turn of the loop
-more : (c : After-list_word-arg-1)
-    → let a = c.args in
-    let l = c.loop-w in
-    let x = c.first_ones-x.result in
-    Step (others a.work.now a.r a.v) a.n 1 l.w a.out.now l.out l.c (items 64 x (get_or a.work.now (truth_at + l.w) 0) 2 (l.w * 64))
-more c =
+pub list_words-requires-clause-room : goal.list_words-requires-clause-room
+list_words-requires-clause-room c = λ k words le given.
     let a = c.args in
-    let l = c.loop-w in
-    other_step a.n l.w _ _ (omega arith) c.first_ones-x.ensures a.work.now a.out.now l.out l.c (omega arith) a.r a.v _ (omega arith) (omega arith) l.invariant (rw c.own.ensures at c.without.ensures) (omega arith)
-
-pub loop-w-init : goal.loop-w-init
-loop-w-init c = scan_start (scanned_grows _ _) _ _ _ (omega arith)
-
-pub list_word-c-requires : goal.list_word-c-requires
-list_word-c-requires c = (omega arith, omega arith, (more c).room)
-
-pub loop-w-preserved : goal.loop-w-preserved
-loop-w-preserved c = (more (goal.at.loop-w-preserved c).After-list_word-arg-1).turn _ _ _ c.list_word-c.ensures
+    rw (same_others a.work.now k words a.r a.v.number a.v.first (λ w l. let g = given w l in search rules))
+    (few_others a.work.now a.r a.v.number a.n k a.v.first (omega arith) le)
 
 pub returns : goal.returns
-returns c = scan_end _ _ _ _ _ _ _ c.loop-w.invariant (omega arith)
+returns c =
+    let a = c.args in
+    let h = c.list_words.ensures in
+    rw (same_others a.work.now a.n h.words a.r a.v.number a.v.first (λ w l. let g = h.given w l in search rules)) at h.listed

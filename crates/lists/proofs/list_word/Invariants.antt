@@ -1,8 +1,5 @@
 use Rattle.lists.proofs.Digits.{Rest}
 use Rattle.lists.proofs.list_word.Given as goal
 
-abbrev pub invariant-loop-rest : goal.invariant-loop-rest
-invariant-loop-rest l = Rest l.x l.t l.s l.base l.at l.initial.out l.out l.rest l.c
-
-abbrev pub decreases-loop-rest : goal.decreases-loop-rest
-decreases-loop-rest l = l.rest
+abbrev pub invariant-loop-i : goal.invariant-loop-i
+invariant-loop-i l = Rest l.x l.t l.s l.base l.at l.initial.out l.out l.i-iterator.0 l.c

@@ -1,27 +1,28 @@
-use Rattle.std.proofs.Common.{ap, arith, get_or, rules, ◌%◌, ◌∙◌, ◌≡◌}
+use Rattle.std.proofs.Common.{ap, arith, get_or, refl, ◌%◌, ◌∙◌, ◌≡◌}
 use Rattle.words.specs.Words.{digit}
 use Rattle.tableau.specs.Layout.{last_at}
-use Rattle.opening.proofs.Basics.{basics_loaded}
-use Rattle.opening.proofs.Loads.{lowest_read, none_left}
+use Rattle.opening.specs.Opened.{Spent}
+use Rattle.opening.proofs.Loads.{lowest_read, none_read}
 use Rattle.opening.proofs.open_row.Goals as goal
+use Rattle.opening.proofs.open_row.Goals.{In_default}
 
-pub reduce-requires : goal.reduce-requires
-reduce-requires c = (search rules, search rules, basics_loaded _ _ _ _ _ c.load_row.ensures c.requires.4)
+-- no variable is left in the row
+spent : (c : In_default) → Spent c.args.q c.args.k c.args.rows.now c.args.work.now c.reduce.new.work
+spent c =
+    record { begun = c.load_row.new.work; loaded = c.load_row.ensures; reduced = c.reduce.ensures; empty = none_read _ _ _ c.load.ensures c.in_default.ensures }
 
-pub returns-then-u-ne0 : goal.returns-then-u-ne0
-returns-then-u-ne0 c =
+pub returns-in-Some : goal.returns-in-Some
+returns-in-Some c =
     let l = c.load_row in
     let d = c.reduce in
-    let u = c.lowest-u in
     let h = c.set_home in
     record {
       begun = l.new.work;
       left = d.new.work;
-      u = u.result;
+      u = c.in-Some.u.number;
       loaded = l.ensures;
       reduced = d.ensures;
-      lowest = lowest_read _ _ _ _ c.load.ensures u.ensures;
-      some = omega (arith, c.if-u-ne0.true);
+      lowest = lowest_read _ _ _ c.load.ensures _ c.in-Some.ensures;
       long = d.auto.work ∙ l.auto.work;
       housed = h.new.work;
       home = h.ensures;
@@ -29,12 +30,10 @@ returns-then-u-ne0 c =
     }
 
 pub returns-then-work-k-eq1 : goal.returns-then-work-k-eq1
-returns-then-work-k-eq1 c =
-    (none_left _ _ _ _ _ _ _ c.load_row.ensures c.reduce.ensures (lowest_read _ _ _ _ c.load.ensures c.lowest-u.ensures) c.if-u-ne0.false, ap digit c.if-work-k-eq1.true)
+returns-then-work-k-eq1 c = (spent (goal.at.returns-then-work-k-eq1 c).In_default, ap digit c.if-work-k-eq1.true, refl)
 
-pub returns-else-work-k-eq1 : goal.returns-else-work-k-eq1
-returns-else-work-k-eq1 c =
+pub returns : goal.returns
+returns c =
     let w = c.reduce.new.work in
-    let k = c.args.k in
-    let e : get_or w (last_at k) 0 % 2 ≡ 0 = omega (arith, c.if-work-k-eq1.false) in
-    (none_left _ _ _ _ _ _ _ c.load_row.ensures c.reduce.ensures (lowest_read _ _ _ _ c.load.ensures c.lowest-u.ensures) c.if-u-ne0.false, ap digit e)
+    let e : get_or w (last_at c.args.k) 0 % 2 ≡ 0 = omega (arith, c.if-work-k-eq1.false) in
+    (spent (goal.at.returns c).In_default, ap digit e)

@@ -1,18 +1,13 @@
-use Rattle.std.proofs.Common.{arith, refl, ◌≡◌}
+use Rattle.std.proofs.Common.{List, length, take, drop, replicate, arith, ℕ, ◌+◌, ◌≡◌, ◌≤◌}
+use Rattle.std.proofs.lemmas.Grind.{common_steps}
+use Rattle.std.proofs.lemmas.List.{get_or-replicate}
+use borrow.Rule.Slice.PartMut.{put_mid}
+use Rattle.tableau.specs.Buffer.{Run}
 use Rattle.tableau.specs.Layout.{known_at}
-use Rattle.tableau.proofs.Runs.{run_none, run_more}
 use Rattle.settle.proofs.clear_values.Goals as goal
 
-pub loop-j-init : goal.loop-j-init
-loop-j-init c = (omega arith, run_none _ _ _)
-
-pub bounds-work-j : goal.bounds-work-j
-bounds-work-j c = omega (arith, c.loop-j.invariant.1.len)
-
-pub loop-j-preserved : goal.loop-j-preserved
-loop-j-preserved c =
-    let l = c.loop-j in
-    (omega arith, run_more known_at l.j (λ i. 0) _ l.work 0 l.invariant.1 (omega arith) refl)
+cleared : (a k : ℕ) (ws ys : List ℕ) → a + k ≤ length ws → ys ≡ replicate (length (take k (drop a ws))) 0 → Run a k (λ i. 0) ws (put_mid a k ws ys)
+cleared a k ws ys l e = grind (arith, common_steps, get_or-replicate)
 
 pub returns : goal.returns
-returns c = let e : c.loop-j.j ≡ 16 = omega arith in rw e at c.loop-j.invariant.1
+returns c = cleared known_at 16 c.args.work.now c.fill.new.self (omega arith) (c.fill.ensures.after (λ y h. h))

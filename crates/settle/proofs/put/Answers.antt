@@ -1,17 +1,12 @@
-use Rattle.std.proofs.Common.{arith, length-set, ◌-◌}
+use Rattle.std.proofs.Common.{arith, ◌-◌}
 use Rattle.settle.proofs.Putting.{put_done}
 use Rattle.settle.proofs.put.Goals as goal
-use Rattle.settle.proofs.put.Goals.{then-b, else-b}
-
-pub bounds-work-t : goal.bounds-work-t
-bounds-work-t c = simp length-set (omega arith)
-
-pub bounds-work-t-2 : goal.bounds-work-t-2
-bounds-work-t-2 c = simp length-set (omega arith)
+use Rattle.settle.proofs.put.Goals.{then-l, else-l}
 
 pub returns : goal.returns
 returns c =
     let a = c.args in
     let o = c.own-mask in
-    put_done a.work.now (a.v - 1) a.b o.result c.if-b.bit (omega arith) (omega arith) o.ensures
-    (elim c.if-b.branch [ then-b w ↦ rw w.if-b.true w.bit-is | else-b w ↦ rw w.if-b.false w.bit-is ])
+    let w = c.place-w.ensures.0 in
+    rw w (put_done a.work.now (a.l.variable.number - 1) a.l.value o.result c.if-l.bit (omega arith) (omega arith) (rw w at o.ensures)
+    (elim c.if-l.branch [ then-l w ↦ rw w.if-l.true w.bit-is | else-l w ↦ rw w.if-l.false w.bit-is ]))

@@ -1,4 +1,4 @@
-use Rattle.std.proofs.Common.{add-one, ap, arith, drop, get_or, get_or-drop, ltb, rules, sym, ℕ, ◌%◌, ◌*◌, ◌/◌, ◌^◌, ◌∙◌, ◌≡◌}
+use Rattle.std.proofs.Common.{add-one, ap, arith, drop, get_or, rules, sym, ℕ, ◌%◌, ◌*◌, ◌/◌, ◌^◌, ◌∙◌, ◌≡◌}
 use Rattle.format.proofs.Clean.{row_cleaned, past_none, past_more, row_spoiled}
 use Rattle.format.specs.Bits.{value_of}
 use Rattle.format.specs.Sheet.{packed}
@@ -7,29 +7,29 @@ use Rattle.sheet.proofs.clean_row.Goals as goal
 pub loop-w-init : goal.loop-w-init
 loop-w-init c =
     let a = c.args in
-    (search rules, omega arith, search rules, past_none a.n (a.n / 64) (drop a.base a.store.now) (omega arith))
+    (omega arith, search rules, past_none a.shape.n (a.shape.n / 64) a.row.now (omega arith))
 
 pub returns-then-past-gt0 : goal.returns-then-past-gt0
 returns-then-past-gt0 c =
     let a = c.args in
     let l = c.loop-w in
-    let ws = drop a.base a.store.now in
-    let e : c.raised-past.result ≡ get_or ws l.w 0 * 2 ^ l.left % 2 ^ 64 = c.raised-past.ensures ∙ ap (λ (v : ℕ). v * 2 ^ l.left % 2 ^ 64) (sym (get_or-drop a.base a.store.now l.w 0)) in
-    sym (row_spoiled a.n l.w l.left c.raised-past.result ws l.invariant.1 l.invariant.2 e (omega arith) (omega arith))
+    let ws = a.row.now in
+    let e : c.raised-past.result ≡ get_or ws l.w 0 * 2 ^ l.left % 2 ^ 64 = c.raised-past.ensures in
+    sym (row_spoiled a.shape.n l.w l.left c.raised-past.result ws l.invariant.0 l.invariant.1 e (omega arith) (omega arith))
 
 pub loop-w-preserved : goal.loop-w-preserved
 loop-w-preserved c =
     let a = c.args in
     let l = c.loop-w in
-    let ws = drop a.base a.store.now in
-    let e : c.raised-past.result ≡ get_or ws l.w 0 * 2 ^ l.left % 2 ^ 64 = c.raised-past.ensures ∙ ap (λ (v : ℕ). v * 2 ^ l.left % 2 ^ 64) (sym (get_or-drop a.base a.store.now l.w 0)) in
-    (search rules, omega arith, search rules, rw add-one (past_more a.n l.w l.left c.raised-past.result ws l.invariant.1 l.invariant.2 e l.invariant.3 (omega arith)))
+    let ws = a.row.now in
+    let e : c.raised-past.result ≡ get_or ws l.w 0 * 2 ^ l.left % 2 ^ 64 = c.raised-past.ensures in
+    (omega arith, search rules, rw add-one (past_more a.shape.n l.w l.left c.raised-past.result ws l.invariant.0 l.invariant.1 e l.invariant.2 (omega arith)))
 
 pub returns : goal.returns
 returns c =
     let a = c.args in
     let l = c.loop-w in
-    let ws = drop a.base a.store.now in
+    let ws = a.row.now in
     let w8 : l.w ≡ 8 = omega arith in
-    let z : value_of (drop a.n (packed 8 ws)) ≡ 0 = ap (λ (k : ℕ). value_of (drop a.n (packed k ws))) (sym w8) ∙ l.invariant.3 in
-    sym (row_cleaned a.n ws z ∙ ap (λ (v : ℕ). ltb v 2) (get_or-drop a.base a.store.now 8 0))
+    let z : value_of (drop a.shape.n (packed 8 ws)) ≡ 0 = ap (λ (k : ℕ). value_of (drop a.shape.n (packed k ws))) (sym w8) ∙ l.invariant.2 in
+    sym (row_cleaned a.shape.n ws z)

@@ -8,17 +8,16 @@ use Rattle.sheet.proofs.row_at.Goals.{then-k-lt8, else-k-lt8}
 
 pub loop-w-init : goal.loop-w-init
 unfolding words_of
-loop-w-init c = (search rules, search rules, search rules, refl)
+loop-w-init c = (search rules, search rules, refl)
 
 pub loop-w-preserved : goal.loop-w-preserved
 loop-w-preserved c =
     let a = c.args in
     let l = c.loop-w in
-    let f = c.field_64-f in (
-      search rules,
-      length-set l.words l.w f.result.value ∙ l.invariant.1,
+    let f = c.field-f in (
+      length-set l.words l.w f.result.value ∙ l.invariant.0,
       omega (arith, f.ensures.1),
-      words_read (bits_of a.s.now) a.at.at a.n l.w l.c.at f.result.value l.words (omega arith) (rw length-bits_of (omega arith)) (omega arith) (omega arith) f.ensures.0 l.invariant.3,
+      words_read (bits_of a.s.now) a.at.at a.shape.n l.w l.c.at f.result.value l.words (omega arith) (rw length-bits_of (omega arith)) (omega arith) (omega arith) f.ensures.0 l.invariant.2,
     )
 
 pub returns : goal.returns
@@ -26,9 +25,9 @@ returns c =
     let f = c.field-last in
     let l = c.loop-w in
     let a = c.args in
-    let k : l.w ≡ a.n / 64 = omega arith in (
-      row_read (bits_of a.s.now) a.at.at a.n (a.n / 64) l.c.at f.result.value l.words (omega arith) (rw length-bits_of (omega arith)) refl (omega arith) f.ensures.0
-          (l.invariant.3 ∙ ap (front (take a.n (drop a.at.at (bits_of a.s.now)))) k) _ _
-          (elim c.if-k-lt8.branch [ then-k-lt8 z ↦ inl (z.if-k-lt8.true, z.words-is ∙ ap (set l.words (a.n / 64)) z.raised.ensures) | else-k-lt8 z ↦ inr (z.if-k-lt8.false, z.words-is) ]) (omega arith),
+    let k : l.w ≡ a.shape.n / 64 = omega arith in (
+      row_read (bits_of a.s.now) a.at.at a.shape.n (a.shape.n / 64) l.c.at f.result.value l.words (omega arith) (rw length-bits_of (omega arith)) refl (omega arith) f.ensures.0
+          (l.invariant.2 ∙ ap (front (take a.shape.n (drop a.at.at (bits_of a.s.now)))) k) _ _
+          (elim c.if-k-lt8.branch [ then-k-lt8 z ↦ inl (z.if-k-lt8.true, z.words-is ∙ ap (set l.words (a.shape.n / 64)) z.raised.ensures) | else-k-lt8 z ↦ inr (z.if-k-lt8.false, z.words-is) ]) (omega arith),
       omega (arith, f.ensures.1),
     )

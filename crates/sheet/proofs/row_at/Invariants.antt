@@ -1,11 +1,8 @@
-use Rattle.std.proofs.Common.{drop, length, take, ◌*◌, ◌+◌, ◌-◌, ◌≡◌, ◌≤◌}
+use Rattle.std.proofs.Common.{drop, length, take, ◌*◌, ◌+◌, ◌≡◌}
 use Rattle.format.proofs.Rows.{front}
 use Rattle.format.specs.Bits.{bits_of}
 use Rattle.sheet.proofs.row_at.Given as goal
 
 abbrev pub invariant-loop-w : goal.invariant-loop-w
 invariant-loop-w l =
-    (l.w ≤ l.k) × (length l.words ≡ 8) × (l.c.at ≡ l.initial.c.at + 64 * l.w) × (l.words ≡ front (take l.n (drop l.initial.c.at (bits_of l.s))) l.w)
-
-abbrev pub decreases-loop-w : goal.decreases-loop-w
-decreases-loop-w l = l.k - l.w
+    (length l.words ≡ 8) × (l.c.at ≡ l.initial.c.at + 64 * l.w) × (l.words ≡ front (take l.fn.shape.n (drop l.initial.c.at (bits_of l.s))) l.w)

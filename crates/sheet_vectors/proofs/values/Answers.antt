@@ -4,7 +4,7 @@ use Rattle.format.specs.Sheet.{clean, clean_row, packed}
 use Rattle.sheet_vectors.proofs.values.Goals as goal
 
 pub writes-requires : goal.writes-requires
-unfolding value_of bits_n odd clean clean_row packed
+unfolding clean
 writes-requires c = (search rules, search rules, refl)
 
 pub writes-requires-4 : goal.writes-requires-4

@@ -1,9 +1,9 @@
-use Rattle.std.proofs.Common.{arith}
+use Rattle.std.proofs.Common.{sym, ◌∙◌}
 use Rattle.words.proofs.Bits.{own_here, own_away}
 use Rattle.words.proofs.own.Goals as goal
 
-pub returns-then-p-j : goal.returns-then-p-j
-returns-then-p-j c = own_here c.args.v c.args.j (omega arith)
+pub returns-then-w-j : goal.returns-then-w-j
+returns-then-w-j c = rw c.place-w.ensures.1 (own_here c.args.v.number c.args.j (sym c.place-w.ensures.0 ∙ c.if-w-j.true))
 
-pub returns-else-p-j : goal.returns-else-p-j
-returns-else-p-j c = own_away c.args.v c.args.j c.if-p-j.false
+pub returns-else-w-j : goal.returns-else-w-j
+returns-else-w-j c = own_away c.args.v.number c.args.j (λ e. c.if-w-j.false (c.place-w.ensures.0 ∙ e))

@@ -1,4 +1,4 @@
-use Rattle.std.proofs.Common.{ap, ap₂, arith, drop, get_or, mod-lt, pow_pos, refl, rules, sym, take, ℕ, ◌%◌, ◌*◌, ◌+◌, ◌-◌, ◌/◌, ◌<◌, ◌^◌, ◌∙◌, ◌≡◌}
+use Rattle.std.proofs.Common.{ap₂, arith, get_or, mod-lt, pow_pos, refl, rules, sym, ℕ, ◌%◌, ◌*◌, ◌+◌, ◌-◌, ◌/◌, ◌<◌, ◌^◌, ◌∙◌}
 use Rattle.bits.proofs.Masks.{joined}
 use Rattle.format.proofs.Bytes.{length-bits_of, field_step}
 use Rattle.format.proofs.Values.{field_lt}
@@ -13,7 +13,7 @@ pub loop-done-preserved : goal.loop-done-preserved
 loop-done-preserved c =
     let a = c.args in
     let l = c.loop-done in
-    let t = c.shorter-t.result in
+    let t = c.min-t.result in
     let i = a.self.at + l.done in
     let hp : c.piece-p.result < 2 ^ t = rw c.piece-p.ensures (mod-lt (get_or a.s.now (i / 8) 0 / 2 ^ (8 - i % 8 - t)) (pow_pos t)) in
     let hv : l.value < 2 ^ l.done = rw l.invariant.1 (field_lt l.done a.self.at (bits_of a.s.now) (rw length-bits_of (omega arith))) in (
@@ -22,10 +22,3 @@ loop-done-preserved c =
           ∙ ap₂ (λ (x y : ℕ). x * 2 ^ t + y) l.invariant.1 c.piece-p.ensures
           ∙ sym (field_step a.s.now a.self.at l.done t (omega arith) (omega arith)),
     )
-
-pub returns : goal.returns
-returns c =
-    let l = c.loop-done in
-    let a = c.args in
-    let e : l.done ≡ a.count = omega arith in
-    (l.invariant.1 ∙ ap (λ (k : ℕ). value_of (take k (drop a.self.at (bits_of a.s.now)))) e, refl)
