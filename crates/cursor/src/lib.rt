@@ -87,7 +87,8 @@ impl Cursor {
         Cursor { at: at + count }
     }
 
-    // Puts the count low bits of value at the cursor.
+    // Puts the count low bits of value at the cursor. Inlined, so that nothing is asked of a count of 64 when it runs.
+    #[inline(always)]
     pub fn put(self, s: &mut [u8], value: u64, count: usize) -> Cursor
         requires { (count ≤ 64) × (self.at + count ≤ 8 * length s.old) × (self.at < 2 ^ 32) }
         ensures { (bits_of s.new ≡ put_at (bits_of s.old) self.at (bits_n count value)) × (result.at ≡ self.at + count) }

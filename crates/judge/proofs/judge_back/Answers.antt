@@ -1,0 +1,13 @@
+use Rattle.std.proofs.Common.{rules, [], ◌∷◌, ltb}
+use Rattle.format.specs.Refusals.{check}
+use Rattle.judge.specs.Checks.{unfit}
+use Rattle.judge.proofs.Judged.{refused_more}
+use Rattle.judge.proofs.judge_back.Goals as goal
+
+-- the checks of the state come first, and then those of back alone
+pub returns-in_err-judge_state : goal.returns-in_err-judge_state
+returns-in_err-judge_state c =
+    let a = c.args in
+    let rest = check 9 (ltb a.h.depth a.depth) ∷ [] in
+    let e = refused_more (check 11 (unfit a.h) ∷ check 6 (ltb a.words 4096) ∷ []) rest c.in_err-judge_state.field-0.0 c.in_err-judge_state.ensures in
+    search (rules, e)
