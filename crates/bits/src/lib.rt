@@ -26,7 +26,7 @@ pub fn last_bits(v: u64, count: usize, p: u64) -> u64
     requires { count < 64 }
     ensures { result ≡ v / 2 ^ (64 - count) * 2 ^ 1 + p % 2 ^ 1 }
 {
-    (lowered(v, 64 - count) << 1) | (p % 2)
+    (lowered(v, 64 - count) << 1) | (p & 1)
 }
 
 // t bits of the byte b, past its first off.
