@@ -114,18 +114,26 @@ pub struct Head {
     pub ghost m_fits: { m < 512 },
 }
 
+// A head that was read, and the cursor behind it.
+#[derive(Clone, Copy)]
+pub struct HeadField {
+    pub head: Head,
+    pub next: Cursor,
+}
+
 // n and m, as the first 19 bits say them.
-pub fn head_of(s: &[u8]) -> Head
+pub fn head_of(s: &[u8]) -> HeadField
     requires { 3 ≤ length s.now }
-    ensures { (result.n ≡ n_of s.now) × (result.m ≡ m_of s.now) }
+    ensures { (result.head.n ≡ n_of s.now) × (result.head.m ≡ m_of s.now) × (result.next.at ≡ 19) }
 {
     let start = Cursor { at: 0 };
     let n = start.field(s, 10);
     let m = n.next.field(s, 9);
-    Head {
+    let head = Head {
         n: n.value as usize,
         m: m.value as usize,
-    }
+    };
+    HeadField { head, next: m.next }
 }
 
 impl Head {

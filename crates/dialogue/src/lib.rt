@@ -30,7 +30,7 @@ pub fn sheet_end(s: &[u8]) -> usize
     if s.len() < 3 {
         return s.len();
     }
-    let head = cursor::head_of(s);
+    let head = cursor::head_of(s).head;
     head.size().min(s.len())
 }
 

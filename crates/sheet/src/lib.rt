@@ -40,12 +40,12 @@ fn row_at(at: Cursor, s: &[u8], shape: Shape) -> Row
     let last = c.field(s, left + 1);
     // n = 512 has no begun word: its eight are full.
     if k < 8 {
-        words[k] = bits::raised(last.value / 2, 64 - left);
+        words[k] = bits::raised(last.value >> 1, 64 - left);
     }
     let next = last.next;
     Row {
         words,
-        parity: last.value % 2,
+        parity: last.value & 1,
         next,
     }
 }
@@ -66,7 +66,7 @@ pub fn judge(s: &[u8], room: usize) -> Result<Shape, Refusal>
     if s.len() < 3 {
         return Err(Refusal::ShortSheet);
     }
-    let head = cursor::head_of(s);
+    let head = cursor::head_of(s).head;
     let shape = Shape::new(head.n, head.m)?;
     let bits = head.bits();
     let size = head.size();
@@ -94,7 +94,7 @@ pub fn fill(s: &[u8], shape: Shape, store: &mut [u64])
     requires { (bits_for shape.n shape.m ≤ 8 * length s.now) × (9 * shape.m ≤ length store.old) }
     ensures { store.new ≡ store_words shape.n shape.m (drop 19 (bits_of s.now)) ++ drop (9 * shape.m) store.old }
 {
-    let mut c = Cursor { at: 19 };
+    let mut c = cursor::head_of(s).next;
     for r in 0..shape.m {
         let row = row_at(c, s, shape);
         c = row.next;

@@ -4,8 +4,8 @@ use Rattle.format.proofs.Values.{field_lt}
 use Rattle.format.specs.Bits.{bits_of}
 use Rattle.cursor.proofs.head_of.Goals as goal
 
-pub invariant_of-result : goal.invariant_of-result
-invariant_of-result c =
+pub invariant_of-head : goal.invariant_of-head
+invariant_of-head c =
     let s = c.args.s.now in
     let l = length-bits_of s in
     record {

@@ -11,7 +11,7 @@ use Rattle.sheet.proofs.judge.Goals.{After-field-rest}
 -- what the checks before the padding leave
 whole : (c : After-field-rest) → let s = c.args.s.now in (n_of s ≤ 512) × (m_of s ≤ 256) × (length s ≡ size_for (n_of s) (m_of s))
 whole c =
-    let h = c.head_of-head in
+    let h = c.head_of in
     let w = c.in_ok-shape.shape in
     let is = c.in_ok-shape.ensures.1 in
     (omega (arith, w.n_fits, is.n_is, h.ensures.0), omega (arith, w.m_fits, is.m_is, h.ensures.1), rw (← h.ensures.0, ← h.ensures.1) (omega (arith, c.size-size.ensures.0)))
@@ -19,7 +19,7 @@ whole c =
 -- the padding, as it was read
 pad : (c : After-field-rest) → let s = c.args.s.now in c.field-rest.result.value ≡ value_of (drop (bits_for (n_of s) (m_of s)) (bits_of s))
 pad c =
-    let h = c.head_of-head in
+    let h = c.head_of in
     let s = c.args.s.now in
     let w = whole c in
     c.field-rest.ensures.0
@@ -39,13 +39,13 @@ returns-then-room-words c =
     let s = c.args.s.now in
     let w = whole f in
     let is = c.in_ok-shape.ensures.1 in
-    reading_is s c.args.room 6 (Err FewWords) c.if-s-lt3.false (later_6 s (n_of s) (m_of s) c.args.room w.0 w.1 w.2 (omega (arith, pad f)) (omega (arith, is.m_is, c.head_of-head.ensures.1))) refl
+    reading_is s c.args.room 6 (Err FewWords) c.if-s-lt3.false (later_6 s (n_of s) (m_of s) c.args.room w.0 w.1 w.2 (omega (arith, pad f)) (omega (arith, is.m_is, c.head_of.ensures.1))) refl
 
 pub returns : goal.returns
 returns c =
     let f = (goal.at.returns c).After-field-rest in
     let s = c.args.s.now in
-    let h = c.head_of-head in
+    let h = c.head_of in
     let w = whole f in
     let is = c.in_ok-shape.ensures.1 in
     reading_is s c.args.room 0 (Ok c.in_ok-shape.shape) c.if-s-lt3.false (later_none s (n_of s) (m_of s) c.args.room w.0 w.1 w.2 (omega (arith, pad f)) (omega (arith, is.m_is, h.ensures.1)))
