@@ -12,6 +12,15 @@ use format::Refusal;
 use judge::Header;
 use parity::{Assuming, Explained, Opening, Reply};
 
+// The commands, by their leading two bits.
+const END: u16 = 0;
+
+const ASSUME: u16 = 1;
+
+const BACK: u16 = 2;
+
+const EXPLAIN: u16 = 3;
+
 // The header after a step, where its line ends in the line buffer, and whether the session goes on. The header is promised also where it
 // does not, so the step is no Option.
 #[derive(Clone, Copy)]
@@ -190,13 +199,13 @@ pub fn turn(
 {
     let number = (command % 16384) as usize;
     match command / 16384 {
-        0 => Step {
+        END => Step {
             header: h,
             end: 0,
             more: false,
         },
-        1 => assume(h, work, literals, line, number),
-        2 => back(h, work, line, number),
-        _ => explain(h, work, literals, rows, line, number),
+        ASSUME => assume(h, work, literals, line, number),
+        BACK => back(h, work, line, number),
+        EXPLAIN.. => explain(h, work, literals, rows, line, number),
     }
 }

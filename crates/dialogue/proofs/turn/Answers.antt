@@ -11,5 +11,5 @@ returns-in-1 c = assumes c.in-1.is c.assume.ensures
 pub returns-in-2 : goal.returns-in-2
 returns-in-2 c = backs c.in-2.is c.back.ensures
 
-pub returns-in_default : goal.returns-in_default
-returns-in_default c = explains (omega arith) c.explain.ensures
+pub returns-in-3-to-65535 : goal.returns-in-3-to-65535
+returns-in-3-to-65535 c = explains (omega arith) c.explain.ensures
