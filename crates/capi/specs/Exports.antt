@@ -1,6 +1,6 @@
 -- THE EXPORTS: which numbers each answer of the module is given to C as, and what each call with numbers promises.
 --   read_numbers, write_numbers, open_numbers, assume_numbers, explain_numbers   the struct that an answer becomes: its number, its values, and 0 in a field that the number gives no meaning
---   read_n, read_m, write_size, open_count, assume_count, explain_clause, explain_rows   the values in its fields
+--   read_n, read_m, write_size   the values of a sheet's answers; those of the other calls are parity's own
 --   ReadExport .. r ..      r is the struct of an answer that the module promises, and so are the buffers after the call; WriteExport, OpenExport, AssumeExport and ExplainExport alike
 -- Back answers a plain number: its promise is BackPromise of parity itself.
 -- Assumes nothing.
@@ -12,11 +12,9 @@ use Rattle.judge.specs.declared.Header.{Header}
 use Rattle.sheet.specs.Reader.{Reads}
 use Rattle.sheet.specs.Writer.{Writes}
 use Rattle.parity.specs.declared.Opening.{Opening}
-use Rattle.parity.specs.declared.Opening.TheVariants.{Unsatisfiable, Opened}
 use Rattle.parity.specs.declared.Assuming.{Assuming}
-use Rattle.parity.specs.declared.Assuming.TheVariants.{Held, Conflict, Taken}
 use Rattle.parity.specs.declared.Explained.{Explained}
-use Rattle.parity.specs.Numbers.{open_number, assume_number, explain_number}
+use Rattle.parity.specs.Numbers.{open_number, open_value, assume_number, assume_value, explain_number, explain_codes, explain_rows}
 use Rattle.parity.specs.Promises.{OpenPromise, AssumePromise, ExplainPromise}
 use Rattle.capi.specs.declared.ReadNumbers.{ReadNumbers}
 use Rattle.capi.specs.declared.WriteNumbers.{WriteNumbers}
@@ -58,14 +56,8 @@ pub record WriteExport (n m : ℕ) (ws old : List ℕ) (r : WriteNumbers) (new :
 
 -- ---- open
 
--- how many row numbers or implied literals are listed
-abbrev pub open_count : Result Opening Refusal → ℕ
-open_count (Err r) = 0
-open_count (Ok (Unsatisfiable x)) = x
-open_count (Ok (Opened x)) = x
-
 abbrev pub open_numbers : Result Opening Refusal → Header → OpenNumbers
-open_numbers a h = record { number = open_number a; count = open_count a; header = h }
+open_numbers a h = record { number = open_number a; count = open_value a; header = h }
 
 pub record OpenExport (old : Header) (s store work literals rows : List ℕ) (r : OpenNumbers) (store' work' literals' rows' : List ℕ) : Type 0 where
   pub answer : Result Opening Refusal
@@ -75,15 +67,8 @@ pub record OpenExport (old : Header) (s store work literals rows : List ℕ) (r 
 
 -- ---- assume
 
--- how many newly implied literals are listed; of a conflict, the variable
-abbrev pub assume_count : Result Assuming Refusal → ℕ
-assume_count (Err r) = 0
-assume_count (Ok Held) = 0
-assume_count (Ok (Conflict v)) = v
-assume_count (Ok (Taken x)) = x
-
 abbrev pub assume_numbers : Result Assuming Refusal → Header → AssumeNumbers
-assume_numbers a h = record { number = assume_number a; count = assume_count a; header = h }
+assume_numbers a h = record { number = assume_number a; count = assume_value a; header = h }
 
 pub record AssumeExport (old : Header) (work literals : List ℕ) (code : ℕ) (r : AssumeNumbers) (work' literals' : List ℕ) : Type 0 where
   pub answer : Result Assuming Refusal
@@ -93,17 +78,8 @@ pub record AssumeExport (old : Header) (work literals : List ℕ) (code : ℕ) (
 
 -- ---- explain
 
--- how many codes of the clause, and how many row numbers, are listed
-abbrev pub explain_clause : Result Explained Refusal → ℕ
-explain_clause (Err r) = 0
-explain_clause (Ok e) = e.codes
-
-abbrev pub explain_rows : Result Explained Refusal → ℕ
-explain_rows (Err r) = 0
-explain_rows (Ok e) = e.numbers
-
 abbrev pub explain_numbers : Result Explained Refusal → ExplainNumbers
-explain_numbers a = record { number = explain_number a; clause = explain_clause a; rows = explain_rows a }
+explain_numbers a = record { number = explain_number a; clause = explain_codes a; rows = explain_rows a }
 
 pub record ExplainExport (h : Header) (work clause rows : List ℕ) (v : ℕ) (r : ExplainNumbers) (clause' rows' : List ℕ) : Type 0 where
   pub answer : Result Explained Refusal

@@ -1,6 +1,10 @@
 -- THE NUMBERS AND VALUES OF THE ANSWERS, for each case of an answer.
 --   open_number, assume_number, explain_number   a refusal has document 01's number; 0 done, 100 held, 101 conflict, 102 unsatisfiable are chosen here
+--   open_value       how many row numbers of an unsatisfiable opening are listed, or how many literals of one that is open
+--   assume_value     the variable of a conflict; how many literals are listed where the literal is taken
+--   explain_codes, explain_rows   how many codes of the clause, and how many row numbers, are listed
 --   open_says, assume_says, explain_says         the answer of the definitions, with its list read from the buffers as they then are
+-- A value is 0 in each case that has none.
 -- A refusal is no answer of the definitions; what 10 and 12 say of the state is in the promises.
 -- Assumes nothing.
 use Rattle.std.specs.Prelude.{List, take, ℕ, Result, Ok, Err}
@@ -19,15 +23,34 @@ open_number (Err r) = number r
 open_number (Ok (Unsatisfiable x)) = 102
 open_number (Ok (Opened x)) = 0
 
+abbrev pub open_value : Result Opening Refusal → ℕ
+open_value (Err r) = 0
+open_value (Ok (Unsatisfiable x)) = x
+open_value (Ok (Opened x)) = x
+
 abbrev pub assume_number : Result Assuming Refusal → ℕ
 assume_number (Err r) = number r
 assume_number (Ok Held) = 100
 assume_number (Ok (Conflict v)) = 101
 assume_number (Ok (Taken x)) = 0
 
+abbrev pub assume_value : Result Assuming Refusal → ℕ
+assume_value (Err r) = 0
+assume_value (Ok Held) = 0
+assume_value (Ok (Conflict v)) = v
+assume_value (Ok (Taken x)) = x
+
 abbrev pub explain_number : Result Explained Refusal → ℕ
 explain_number (Err r) = number r
 explain_number (Ok e) = 0
+
+abbrev pub explain_codes : Result Explained Refusal → ℕ
+explain_codes (Err r) = 0
+explain_codes (Ok e) = e.codes
+
+abbrev pub explain_rows : Result Explained Refusal → ℕ
+explain_rows (Err r) = 0
+explain_rows (Ok e) = e.numbers
 
 -- with the kept count of the header, and the literals and row numbers in the answer buffers
 abbrev pub open_says : Result Opening Refusal → ℕ → List ℕ → List ℕ → Option OpenAnswer

@@ -15,7 +15,7 @@ use Rattle.gf2.specs.Answers.{variable, Position, start, withdrawn, moved, OpenA
 use Rattle.linear.specs.State.{KeptPlaces}
 use Rattle.linear.specs.Positions.{position}
 use Rattle.format.specs.Bits.{bits_of}
-use Rattle.format.specs.Refusals.{Check, check, refusal, number, IsRefused}
+use Rattle.format.specs.Refusals.{Check, check, refusal, IsRefused}
 use Rattle.format.specs.Sheet.{n_of, m_of, sheet_rows, store_words, reader}
 use Rattle.format.specs.declared.Refusal.{Refusal}
 use Rattle.judge.specs.declared.Header.{Header}
@@ -27,7 +27,7 @@ use Rattle.parity.specs.declared.Opening.TheVariants.{Unsatisfiable, Opened}
 use Rattle.parity.specs.declared.Assuming.{Assuming}
 use Rattle.parity.specs.declared.Assuming.TheVariants.{Held, Conflict, Taken}
 use Rattle.parity.specs.declared.Explained.{Explained}
-use Rattle.parity.specs.Numbers.{open_says, assume_says, explain_says}
+use Rattle.parity.specs.Numbers.{open_value, open_says, assume_number, assume_value, assume_says, explain_number, explain_codes, explain_rows, explain_says}
 
 -- ---- states
 
@@ -68,10 +68,16 @@ open_checks s store words literals rows = reader s store ++ open_own s words lit
 
 -- what an opening leaves that is not refused
 abbrev pub OpenLeaves : List ℕ → Header → Result Opening Refusal → List ℕ → List ℕ → List ℕ → List ℕ → List ℕ → Type 0
-OpenLeaves s h (Err r) work' literals rows literals' rows' = ⊥
-OpenLeaves s h (Ok (Unsatisfiable x)) work' literals rows literals' rows' = (h ≡ nothing_open) × (x ≤ m_of s) × (literals' ≡ literals) × Used x rows rows'
-OpenLeaves s h (Ok (Opened x)) work' literals rows literals' rows' =
-    (h ≡ opens_with (n_of s) (m_of s) h.kept) × (x ≤ n_of s) × Used x literals literals' × (rows' ≡ rows) × Stands h work' (start (n_of s) (sheet_rows s))
+OpenLeaves s h answer work' literals rows literals' rows' = go answer
+  where
+    count : ℕ
+    count = open_value answer
+
+    go : Result Opening Refusal → Type 0
+    go (Err r) = ⊥
+    go (Ok (Unsatisfiable x)) = (h ≡ nothing_open) × (count ≤ m_of s) × (literals' ≡ literals) × Used count rows rows'
+    go (Ok (Opened x)) =
+        (h ≡ opens_with (n_of s) (m_of s) h.kept) × (count ≤ n_of s) × Used count literals literals' × (rows' ≡ rows) × Stands h work' (start (n_of s) (sheet_rows s))
 
 pub record OpenDone (s : List ℕ) (store work literals rows : List ℕ) (h : Header) (answer : Result Opening Refusal)
     (store' work' literals' rows' : List ℕ) : Type 0 where
@@ -92,11 +98,16 @@ pub record OpenPromise (old : Header) (s store work literals rows : List ℕ) (h
 
 -- on every state
 abbrev pub AssumeLeaves : Header → ℕ → Header → Result Assuming Refusal → List ℕ → List ℕ → List ℕ → List ℕ → Type 0
-AssumeLeaves old code h (Err r) work literals work' literals' = (number r ≡ 12) × (h ≡ old) × (work' ≡ work) × (literals' ≡ literals)
-AssumeLeaves old code h (Ok Held) work literals work' literals' = (h ≡ old) × (work' ≡ work) × (literals' ≡ literals)
-AssumeLeaves old code h (Ok (Conflict v)) work literals work' literals' = (v ≡ variable code) × (h ≡ old) × (work' ≡ work) × (literals' ≡ literals)
-AssumeLeaves old code h (Ok (Taken x)) work literals work' literals' =
-    (h ≡ at_depth old (old.depth + 1)) × (old.depth < old.n) × (x ≤ old.n) × Worked work work' × Used x literals literals'
+AssumeLeaves old code h answer work literals work' literals' = go answer
+  where
+    value : ℕ
+    value = assume_value answer
+
+    go : Result Assuming Refusal → Type 0
+    go (Err r) = (assume_number answer ≡ 12) × (h ≡ old) × (work' ≡ work) × (literals' ≡ literals)
+    go (Ok Held) = (h ≡ old) × (work' ≡ work) × (literals' ≡ literals)
+    go (Ok (Conflict v)) = (value ≡ variable code) × (h ≡ old) × (work' ≡ work) × (literals' ≡ literals)
+    go (Ok (Taken x)) = (h ≡ at_depth old (old.depth + 1)) × (old.depth < old.n) × (value ≤ old.n) × Worked work work' × Used value literals literals'
 
 -- on a state that the module made for p
 pub record AssumeRight (p : Position) (code : ℕ) (h : Header) (answer : Result Assuming Refusal) (work' literals' : List ℕ) : Type 0 where
@@ -123,8 +134,17 @@ pub record BackPromise (old : Header) (work : List ℕ) (depth : ℕ) (number : 
 -- ---- explain
 
 abbrev pub ExplainLeaves : Header → Result Explained Refusal → List ℕ → List ℕ → List ℕ → List ℕ → Type 0
-ExplainLeaves h (Err r) clause rows clause' rows' = (number r ≡ 10) × (clause' ≡ clause) × (rows' ≡ rows)
-ExplainLeaves h (Ok e) clause rows clause' rows' = (e.codes ≤ h.n) × (e.numbers ≤ h.m) × Used e.codes clause clause' × Used e.numbers rows rows'
+ExplainLeaves h answer clause rows clause' rows' = go answer
+  where
+    codes : ℕ
+    codes = explain_codes answer
+
+    numbers : ℕ
+    numbers = explain_rows answer
+
+    go : Result Explained Refusal → Type 0
+    go (Err r) = (explain_number answer ≡ 10) × (clause' ≡ clause) × (rows' ≡ rows)
+    go (Ok e) = (codes ≤ h.n) × (numbers ≤ h.m) × Used codes clause clause' × Used numbers rows rows'
 
 abbrev pub ExplainRight : Position → ℕ → Result Explained Refusal → List ℕ → List ℕ → Type 0
 ExplainRight p v (Err r) clause rows = Unexplained p v
