@@ -1,10 +1,13 @@
 -- WHAT THE SESSION PROGRAM TAKES FROM ITS INPUT, AND WHAT IT SAYS (document 01, "The session program").
 --   sheet_end s            how many bytes of the input are its sheet: as many as its own first 19 bits say, or all where there are fewer
 --   command_of high low    the command of two bytes, top bits first
---   said_opening, said_assuming, said_backing, said_explaining   the line of each answer, its lists read from the buffers as the call left them
+--   said_opening, said_assuming, said_backing, said_explaining   the line of each answer: of the answer of the definitions that it says, its lists read from the buffers as the
+--                          call left them, a conflict with its variable; or of the number of a refusal
 --   goes_on a              whether commands follow an opening: a refused or unsatisfiable one ends the session
 -- Assumes nothing.
-use Rattle.std.specs.Prelude.{List, Bool, true, false, ℕ, ◌+◌, ◌*◌, min, length, take, Result, Ok, Err}
+use Rattle.std.specs.Prelude.{List, Bool, true, false, ℕ, ◌+◌, ◌*◌, min, length, Result, Ok, Err}
+use Rattle.std.proofs.Math.Option.{Option, none, some}
+use Rattle.gf2.specs.Answers.{OpenAnswer, unsatisfiable, opened, AssumeAnswer, held, conflict, implied, ExplainAnswer}
 use Rattle.format.specs.Refusals.{number}
 use Rattle.format.specs.Sheet.{n_of, m_of, size_for}
 use Rattle.format.specs.declared.Refusal.{Refusal}
@@ -12,8 +15,8 @@ use Rattle.lines.specs.Lines.{Said}
 use Rattle.parity.specs.declared.Opening.{Opening}
 use Rattle.parity.specs.declared.Opening.TheVariants.{Unsatisfiable, Opened}
 use Rattle.parity.specs.declared.Assuming.{Assuming}
-use Rattle.parity.specs.declared.Assuming.TheVariants.{Held, Conflict, Taken}
 use Rattle.parity.specs.declared.Explained.{Explained}
+use Rattle.parity.specs.Numbers.{open_number, open_says, assume_number, assume_value, assume_says, explain_number, explain_says}
 
 -- ---- the input
 
@@ -26,15 +29,21 @@ command_of high low = high * 256 + low
 -- ---- the lines
 
 abbrev pub said_opening : Result Opening Refusal → ℕ → List ℕ → List ℕ → Said
-said_opening (Err r) kept literals rows = Said.refused (number r)
-said_opening (Ok (Unsatisfiable count)) kept literals rows = Said.unsatisfiable (take count rows)
-said_opening (Ok (Opened count)) kept literals rows = Said.opened kept (take count literals)
+said_opening answer kept literals rows = go (open_says answer kept literals rows)
+  where
+    go : Option OpenAnswer → Said
+    go none = Said.refused (open_number answer)
+    go (some (unsatisfiable numbers)) = Said.unsatisfiable numbers
+    go (some (opened kept codes)) = Said.opened kept codes
 
 abbrev pub said_assuming : Result Assuming Refusal → List ℕ → Said
-said_assuming (Err r) literals = Said.refused (number r)
-said_assuming (Ok Held) literals = Said.held
-said_assuming (Ok (Conflict variable)) literals = Said.conflict variable
-said_assuming (Ok (Taken count)) literals = Said.implied (take count literals)
+said_assuming answer literals = go (assume_says answer literals)
+  where
+    go : Option AssumeAnswer → Said
+    go none = Said.refused (assume_number answer)
+    go (some held) = Said.held
+    go (some conflict) = Said.conflict (assume_value answer)
+    go (some (implied codes)) = Said.implied codes
 
 -- the depth is the one that was gone back to
 abbrev pub said_backing : Result (Unit {0}) Refusal → ℕ → Said
@@ -42,8 +51,11 @@ said_backing (Err r) depth = Said.refused (number r)
 said_backing (Ok x) depth = Said.back depth
 
 abbrev pub said_explaining : Result Explained Refusal → ℕ → List ℕ → List ℕ → Said
-said_explaining (Err r) variable clause rows = Said.refused (number r)
-said_explaining (Ok e) variable clause rows = Said.explained variable (take e.codes clause) (take e.numbers rows)
+said_explaining answer variable clause rows = go (explain_says answer clause rows)
+  where
+    go : Option ExplainAnswer → Said
+    go none = Said.refused (explain_number answer)
+    go (some said) = Said.explained variable said.clause said.numbers
 
 abbrev pub goes_on : Result Opening Refusal → Bool
 goes_on (Err r) = false
