@@ -1,8 +1,8 @@
 -- WHAT THE SESSION PROGRAM TAKES FROM ITS INPUT, AND WHAT IT SAYS (document 01, "The session program").
 --   sheet_end s            how many bytes of the input are its sheet: as many as its own first 19 bits say, or all where there are fewer
 --   command_of high low    the command of two bytes, top bits first
---   said_opening, said_assuming, said_backing, said_explaining   the line of each answer: of the answer of the definitions that it says, its lists read from the buffers as the
---                          call left them, a conflict with its variable; or of the number of a refusal
+--   said_opening, said_assuming, said_backing, said_explaining   the line of each answer: what it says by the definitions, its lists read from
+--                          the buffers as the call left them, a conflict with its variable; or the number of a refusal
 --   goes_on a              whether commands follow an opening: a refused or unsatisfiable one ends the session
 -- Assumes nothing.
 use Rattle.std.specs.Prelude.{List, Bool, true, false, ℕ, ◌+◌, ◌*◌, min, length, Result, Ok, Err}
