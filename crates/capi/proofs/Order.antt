@@ -1,7 +1,9 @@
 -- THE ORDER OF FIELDS AND PARAMETERS, on which a C program rests: what stands at each place is what the promises call by that name.
 --   header_fields, read_fields, write_fields, open_fields, assume_fields, explain_fields   the fields of each struct, first to last
---   ReadOrder a r e .. ExplainOrder   what an export promises of its parameters, first to last: a as they are passed, r the answer, e as the call leaves them
---   read_order .. explain_order       the contract of each export says that
+--   Over T                          what can be said of the parameters of a contract, of the answer, and of the parameters as the call leaves them
+--   ReadOrder .. ExplainOrder       what an export promises, over its parameters from first to last
+--   Promises T c P                  the contract with the clauses c promises P
+--   read_order .. explain_order     each export promises that
 -- That include/parity.h declares them in this order, and that a compiler passes them in it, is not proved.
 -- Assumes nothing.
 use mathlib.Core.Path.{◌≡◌, refl}
@@ -58,7 +60,6 @@ explain_fields r = refl
 
 -- ---- parameters
 
--- what can be said of the parameters of a contract, of the answer, and of the parameters as the call leaves them
 abbrev Over : Ended → Type 1
 Over T = (κs : Lfts T.signature.lifetimes) → Args T.signature κs → Res T.signature κs → AtExit T κs → Type 0
 
@@ -86,7 +87,6 @@ ExplainOrder κs (h, (work, (clause, (rows, (v, end))))) r (h', (work', (clause'
 module _ {M : Type 1} {𝓤 : Ura M} (𝓛 : Logic 𝓤) (mem : Memory → SProp 𝓤) (run : Routine → Fun 𝓤) where
   open connectives 𝓤 use {⌜◌⌝}
 
-  -- the contract whose clauses are c promises P
   abbrev Promises : (T : Ended) → Clauses 𝓤 T → Over T → Type 2
   Promises T c P = (κs : Lfts T.signature.lifetimes) (a : Args T.signature κs) (g : (c κs a).ghost) (r : Res T.signature κs) (e : AtExit T κs)
       → (c κs a).ensures g r e ≡ ⌜ P κs a r e ⌝
