@@ -1,3 +1,4 @@
+pub mod Memory
 pub mod Demand
 pub mod Determined
 pub mod Exactly
