@@ -5,3 +5,4 @@ pub mod Later
 pub mod Exactly
 pub mod Accepted
 pub mod AfterCalls
+pub mod Sentences
