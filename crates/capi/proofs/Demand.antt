@@ -1,7 +1,7 @@
 -- DEMAND 3 FOR THE EXPORTS AS C CALLS THEM: what history proves of any list of calls, of the events that C reads.
 --   exported_called    a call of an export is a call, with an answer of the module
 --   called_event       and C reads the event that it is; all_called, called_events: of any list of calls
---   exported_demand, exported_opened, exported_stands   demand, demand_opened and demand_stands of history
+--   exported_demand, exported_opened, exported_stands, exported_counted   demand, demand_opened, demand_stands and demand_counted of history
 -- Assumes nothing.
 use mathlib.Core.Path.{◌≡◌, refl, sym, ap, ap₂, ◌∙◌, subst}
 use mathlib.Core.Bool.{false}
@@ -27,13 +27,13 @@ use Rattle.parity.specs.declared.Assuming.TheVariants.{Held, Conflict, Taken}
 use Rattle.parity.specs.declared.Explained.{Explained}
 use Rattle.parity.specs.Promises.{Stands, OpenPromise, AssumePromise}
 use Rattle.history.specs.Calls as calls
-use Rattle.history.specs.Calls.{Called, open_event, assume_event, explain_event, event, Calls, done, then, copied, events, Matches}
-use Rattle.history.proofs.Demand.{demand, demand_opened, demand_stands}
+use Rattle.history.specs.Calls.{Called, open_event, assume_event, explain_event, event, Calls, done, then, copied, events, Matches, Counted}
+use Rattle.history.proofs.Demand.{demand, demand_opened, demand_stands, demand_counted}
 use Rattle.capi.specs.declared.OpenNumbers.{OpenNumbers}
 use Rattle.capi.specs.declared.AssumeNumbers.{AssumeNumbers}
 use Rattle.capi.specs.declared.ExplainNumbers.{ExplainNumbers}
 use Rattle.capi.specs.Exports.{open_numbers, assume_numbers, explain_numbers}
-use Rattle.capi.specs.Exported.{open_read, assume_read, explain_read, Exported, opening, assuming, backing, explaining, exported_event, exported_events}
+use Rattle.capi.specs.FromC.{open_read, assume_read, explain_read, Exported, opening, assuming, backing, explaining, exported_event, exported_events}
 
 abbrev pub exported_called : {h h' : Header} {work work' : List ℕ} → Exported h work h' work' → Called h work h' work'
 exported_called {h} {h'} {work} {work'} (opening s store literals rows store' literals' rows' r x) =
@@ -121,3 +121,6 @@ exported_opened cs before later n rows answer e = demand_opened (all_called cs) 
 
 pub exported_stands : {h h' : Header} {mem mem' : List ℕ} (cs : Calls Exported h mem h' mem') (p : Position) → at_end none (exported_events cs) ≡ some p → Stands h' mem' p
 exported_stands cs p e = demand_stands (all_called cs) p (ap (at_end none) (sym (called_events cs)) ∙ e)
+
+pub exported_counted : {h h' : Header} {mem mem' : List ℕ} (cs : Calls Exported h mem h' mem') (p : Position) → at_end none (exported_events cs) ≡ some p → Counted h' p
+exported_counted cs p e = demand_counted (all_called cs) p (ap (at_end none) (sym (called_events cs)) ∙ e)

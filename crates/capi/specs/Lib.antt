@@ -1,2 +1,2 @@
 pub mod Exports
-pub mod Exported
+pub mod FromC

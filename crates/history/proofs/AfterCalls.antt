@@ -1,4 +1,5 @@
--- AFTER ANY CALLS, whatever the header and the memory before them, where something is open, from the promises alone. The next call is lent as many words of the memory as its caller says, 4,096 at least.
+-- AFTER ANY CALLS that leave something open, whatever the header and the memory before them, from the promises alone.
+-- The next call is lent as many words of the memory as its caller says, 4,096 at least.
 --   assume_after    with room and a literal in range: held, conflict and taken exactly as demand 2 says
 --   explain_after   with room and a variable in range: refused with 10 exactly if there is nothing to explain
 --   back_after      not refused exactly if so many literals are taken
@@ -29,7 +30,8 @@ use Rattle.history.proofs.Demand.{demand_stands}
 use Rattle.history.proofs.Exactly.{held_exactly, conflict_exactly, taken_exactly, unexplained_exactly}
 use Rattle.history.proofs.Accepted.{assume_accepted, back_accepted, explain_accepted}
 
-module _ {h₀ h : Header} {mem₀ mem : List ℕ} (cs : Calls Called h₀ mem₀ h mem) (p : Position) (e : at_end none (events cs) ≡ some p) (words : ℕ) (enough : size ≤ words) where
+module _ {h₀ h : Header} {mem₀ mem : List ℕ} (cs : Calls Called h₀ mem₀ h mem) (p : Position) (e : at_end none (events cs) ≡ some p)
+    (words : ℕ) (enough : size ≤ words) where
   abbrev lent : List ℕ
   lent = take words mem
 

@@ -5,7 +5,8 @@
 --   back_determined      for every input: number and header
 --   assume_determined, explain_determined   for every input that the checks refuse, and on a state that the module made: answer, header and answer buffers
 --   assume_both, explain_both               the same from two working buffers that stand for one position
--- Of the working buffer its length and the words past the first 4,096 are determined. Its first 4,096 words are not, nor are the answers on a foreign state where the checks refuse nothing.
+-- Of the working buffer the length and the words past the first 4,096 are determined too. Its first 4,096 words are not,
+-- nor are the answers on a foreign state where the checks refuse nothing.
 -- Assumes nothing.
 use mathlib.Core.Path.{◌≡◌, refl, sym, ap, ap₂, ◌∙◌}
 use mathlib.Core.Bool.{Bool, true, false, true≢false}
@@ -90,7 +91,8 @@ module _ (old : Header) (s store work literals rows : List ℕ) where
       let f = none_either (ltb (length literals) (n_of s)) (ltb (length rows) (m_of s)) a.1.1.1.1.1.1.1.1.0 in
       (ltb-false (length literals) (n_of s) f.0, ltb-false (length rows) (m_of s) f.1)
 
-  pub open_keeps : (h : Header) (x : Result Opening Refusal) (store₁ work₁ literals₁ rows₁ : List ℕ) → OpenPromise old s store work literals rows h x store₁ work₁ literals₁ rows₁ → Worked work work₁
+  pub open_keeps : (h : Header) (x : Result Opening Refusal) (store₁ work₁ literals₁ rows₁ : List ℕ)
+      → OpenPromise old s store work literals rows h x store₁ work₁ literals₁ rows₁ → Worked work work₁
   open_keeps h x store₁ work₁ literals₁ rows₁ p = go (refused_or OpenRefusal)
     where
       go : ((c : ℕ) × (OpenRefusal ≡ suc c)) ⊎ (OpenRefusal ≡ 0) → Worked work work₁
@@ -158,11 +160,13 @@ module _ (old : Header) (s store work literals rows : List ℕ) where
       go (inr z) = both z x y (p.done z) (q.done z) (open_unique (n_of s) (sheet_rows s) (p.done z).said (q.done z).said (p.done z).right (q.done z).right)
 
 -- ---- back
-pub back_keeps : (old : Header) (work : List ℕ) (depth number : ℕ) (h : Header) (work₁ : List ℕ) → BackPromise old work depth number h work₁ → Worked work work₁
+pub back_keeps : (old : Header) (work : List ℕ) (depth number : ℕ) (h : Header) (work₁ : List ℕ)
+    → BackPromise old work depth number h work₁ → Worked work work₁
 back_keeps old work depth zero h work₁ p = (p.done refl).1
 back_keeps old work depth (suc c) h work₁ p = as_it_was (p.refused c refl).1
 
-pub back_determined : (old : Header) (work : List ℕ) (depth a b : ℕ) (h k : Header) (work₁ work₂ : List ℕ) → BackPromise old work depth a h work₁ → BackPromise old work depth b k work₂
+pub back_determined : (old : Header) (work : List ℕ) (depth a b : ℕ) (h k : Header) (work₁ work₂ : List ℕ)
+    → BackPromise old work depth a h work₁ → BackPromise old work depth b k work₂
     → (a ≡ b) × (h ≡ k) × (length work₁ ≡ length work₂) × (drop size work₁ ≡ drop size work₂)
 back_determined old work depth a b h k work₁ work₂ p q =
     let u = back_keeps old work depth a h work₁ p in
@@ -201,7 +205,8 @@ abbrev pub AssumeRefusal : Header → List ℕ → List ℕ → ℕ → ℕ
 AssumeRefusal old work literals code = refusal (assume_checks old (length work) (length literals) code)
 
 module _ (old : Header) (work literals : List ℕ) (code : ℕ) where
-  pub assume_keeps : (h : Header) (x : Result Assuming Refusal) (work₁ literals₁ : List ℕ) → AssumePromise old work literals code h x work₁ literals₁ → Worked work work₁
+  pub assume_keeps : (h : Header) (x : Result Assuming Refusal) (work₁ literals₁ : List ℕ)
+      → AssumePromise old work literals code h x work₁ literals₁ → Worked work work₁
   assume_keeps h x work₁ literals₁ a = go (refused_or (AssumeRefusal old work literals code))
     where
       left : (x : Result Assuming Refusal) → AssumeLeaves old code h x work literals work₁ literals₁ → Worked work work₁

@@ -1,8 +1,9 @@
--- THE NEXT ANSWER ON ONE POSITION IS DETERMINED, whatever the words of the working buffer and however much of it is lent: two buffers that stand for the position, with one header.
---   assume_later    answer, header and answer buffer are the same, and both buffers stand for one position again
---   back_later      number and header are the same, and so
+-- THE NEXT ANSWER ON ONE POSITION IS DETERMINED, whatever the words of the working buffer and however much of it is lent: of two calls on buffers
+-- that stand for one position, under one header,
+--   assume_later    answer, header and answer buffer are the same
+--   back_later      number and header are the same
 --   explain_later   answer and both answer buffers are the same
--- Both buffers keep their lengths, and what they had past their first 4,096 words (Later).
+--   Later           and after assume and back each buffer has its length, and what it had past its first 4,096 words, and both stand for one position again
 -- Assumes nothing.
 use mathlib.Core.Path.{◌≡◌, refl, sym, subst, ◌∙◌}
 use mathlib.Core.Logic.{◌⊎◌, inl, inr}

@@ -1,9 +1,10 @@
 -- CALLS ON ONE STATE, known by their promises alone, and the events of the definitions that they are.
 --   Called h work h' work'   one call of open, assume, back or explain took the state (h, work) to (h', work'), and its promise holds
 --   event                    the call with its answer, as demand 3 reads it; open_event, assume_event, back_event, explain_event: of each kind of call
---   Calls Call h mem h' mem'   any list of calls of one kind, one after another, on the front of one memory: each is lent as many words as its caller says, and the words behind them stay.
---                            Between two calls the memory may be replaced by another one with the same first 4,096 words: a state may be copied
---   events                   the events of a list of calls, in order; events_by: of calls of another kind, given the event of each
+--   Calls Call h mem h' mem' any list of calls, one after another, on one memory. Each is lent the front of it, as many words as its caller says, too few among them,
+--                            and the words behind those stay. Between two calls the memory may be replaced by another one with the same first 4,096 words:
+--                            a state may be copied. Call says what one call is: Called here, and in capi a call of an export
+--   events                   the events of a list of calls, in order; events_by: of calls of any kind, given the event of one
 --   Matches h mem s          the state is one that the module made for what is open; where nothing is, the header is not open
 --   Counted h p              the numbers of the header are those of the position: its variables, its rows, its taken literals, its kept rows
 -- Assumes nothing.
@@ -65,10 +66,13 @@ event (explaining v clause rows clause' rows' answer promise) = explain_event v 
 
 pub data Calls (Call : Header → List ℕ → Header → List ℕ → Type 0) : Header → List ℕ → Header → List ℕ → Type 0 where
   done : {h : Header} {mem : List ℕ} → Calls Call h mem h mem
-  then : {h h' h'' : Header} {mem part mem'' : List ℕ} (words : ℕ) → Call h (take words mem) h' part → Calls Call h' (part ++ drop words mem) h'' mem'' → Calls Call h mem h'' mem''
-  copied : {h h'' : Header} {mem mem' mem'' : List ℕ} → take size mem ≡ take size mem' → Calls Call h mem' h'' mem'' → Calls Call h mem h'' mem''
+  then : {h h' h'' : Header} {mem part mem'' : List ℕ} (words : ℕ)
+      → Call h (take words mem) h' part → Calls Call h' (part ++ drop words mem) h'' mem'' → Calls Call h mem h'' mem''
+  copied : {h h'' : Header} {mem mem' mem'' : List ℕ}
+      → take size mem ≡ take size mem' → Calls Call h mem' h'' mem'' → Calls Call h mem h'' mem''
 
-module _ {Call : Header → List ℕ → Header → List ℕ → Type 0} (event_of : (h : Header) (work : List ℕ) (h' : Header) (work' : List ℕ) → Call h work h' work' → Event) where
+module _ {Call : Header → List ℕ → Header → List ℕ → Type 0}
+    (event_of : (h : Header) (work : List ℕ) (h' : Header) (work' : List ℕ) → Call h work h' work' → Event) where
   abbrev pub events_by : {h h' : Header} {mem mem' : List ℕ} → Calls Call h mem h' mem' → List Event
   events_by done = []
   events_by (then words c cs) = event_of _ _ _ _ c ∷ events_by cs
