@@ -114,13 +114,16 @@ pub exported_demand : (s : Option Position) {h h' : Header} {mem mem' : List ℕ
     → Runs s (exported_events cs) × Matches h' mem' (at_end s (exported_events cs))
 exported_demand s {h' = h'} {mem' = mem'} m cs = subst (λ (es : List Event). Runs s es × Matches h' mem' (at_end s es)) (sym (called_events cs)) (demand s m (all_called cs))
 
-pub exported_opened : {h h' : Header} {mem mem' : List ℕ} (cs : Calls Exported h mem h' mem') (before later : List Event) (n : ℕ) (rows : Rows) (answer : OpenAnswer)
+pub exported_opened : {h h' : Header} {mem mem' : List ℕ} (cs : Calls Exported h mem h' mem')
+    (before later : List Event) (n : ℕ) (rows : Rows) (answer : OpenAnswer)
     → exported_events cs ≡ before ++ (opens n rows answer ∷ later)
     → Runs none (opens n rows answer ∷ later) × Matches h' mem' (at_end none (opens n rows answer ∷ later))
 exported_opened cs before later n rows answer e = demand_opened (all_called cs) before later n rows answer (sym (called_events cs) ∙ e)
 
-pub exported_stands : {h h' : Header} {mem mem' : List ℕ} (cs : Calls Exported h mem h' mem') (p : Position) → at_end none (exported_events cs) ≡ some p → Stands h' mem' p
+pub exported_stands : {h h' : Header} {mem mem' : List ℕ} (cs : Calls Exported h mem h' mem') (p : Position)
+    → at_end none (exported_events cs) ≡ some p → Stands h' mem' p
 exported_stands cs p e = demand_stands (all_called cs) p (ap (at_end none) (sym (called_events cs)) ∙ e)
 
-pub exported_counted : {h h' : Header} {mem mem' : List ℕ} (cs : Calls Exported h mem h' mem') (p : Position) → at_end none (exported_events cs) ≡ some p → Counted h' p
+pub exported_counted : {h h' : Header} {mem mem' : List ℕ} (cs : Calls Exported h mem h' mem') (p : Position)
+    → at_end none (exported_events cs) ≡ some p → Counted h' p
 exported_counted cs p e = demand_counted (all_called cs) p (ap (at_end none) (sym (called_events cs)) ∙ e)

@@ -1,9 +1,9 @@
--- CALLS OF THE EXPORTS ON ONE STATE, and the events of the definitions that they are, read from what C sees: the answer's struct, and the buffers after the call.
+-- CALLS OF THE EXPORTS ON ONE STATE, and the events of the definitions that they are, read from what C sees: the struct and the buffers after the call.
 --   open_read, assume_read, explain_read   the event of an answer: 0 has lists, 100 is held, 101 conflict, 102 unsatisfiable.
 --                              Explain's 10 and assume's 12 stand by themselves, and any other number is a refusal's
 --   Exported h work h' work'   one call of an export took the state (h, work) to (h', work'), and its promise holds; h' is the header that C gets
 --   exported_event             its event; of back, which answers a plain number, it is history's
---   exported_events            the events of any list of such calls, in order. The list is a Calls Exported: each call is lent as many words of one memory as C says
+--   exported_events            the events of any list of such calls, in order: a Calls Exported, so each is lent as many words of one memory as C says
 -- Assumes nothing.
 use Rattle.std.specs.Prelude.{cond, List, take, eqb, ℕ}
 use Rattle.gf2.specs.Answers.{unsatisfiable, opened, held, conflict, implied}

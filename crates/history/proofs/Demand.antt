@@ -1,8 +1,8 @@
 -- DEMAND 3, from the promises alone: after any calls, each answer is what the definitions give for what is open, and the state matches what is then open.
 -- Each call is lent as many words of one memory as its caller says, and the state may be copied between calls.
---   refused_or       a refusal, or none; refused_is, refused_same: the refusal of a number; some_one, none_some: an answer, or none
+--   RefusedOrNot, refused_or   a refusal, or none; refused_is, refused_same: the refusal of a number; some_one, none_some: an answer, or none
 --   refused_right    the refusals of a list of checks are right
---   open_step ..     one call; opening_step: an opening that is not refused, whatever the header and the words before it
+--   open_step ..     one call; open_done, opening_step: an opening that is not refused, whatever the header and the words before it
 --   demand           any list of calls on a state that matches what is open
 --   demand_opened    any list of calls, from an opening on that is not refused, whatever the header and the memory before the first call
 --   demand_stands    where any calls leave something open, the state is one that the module made for it, whatever the header and the memory before them
@@ -48,7 +48,10 @@ use Rattle.history.specs.Calls.{Called, opening, assuming, backing, explaining, 
 use Rattle.history.proofs.Memory.{front_matches, lent_matches, behind, unchanged}
 
 -- ---- what is needed of answers and checks
-pub refused_or : (r : ℕ) → ((c : ℕ) × (r ≡ suc c)) ⊎ (r ≡ 0)
+abbrev pub RefusedOrNot : ℕ → Type 0
+RefusedOrNot r = ((c : ℕ) × (r ≡ suc c)) ⊎ (r ≡ 0)
+
+pub refused_or : (r : ℕ) → RefusedOrNot r
 refused_or zero = inr refl
 refused_or (suc c) = inl (c, refl)
 
@@ -80,13 +83,13 @@ literal_of : (h : Header) (words room code : ℕ) → refusal (assume_checks h w
 literal_of h words room code e = let j = assume_judged h words room code e in of_range h.n code j.3 (let hi = j.4 in omega arith)
 
 -- where something is open, line 11 does not hold
-refused_right : (s : Option Position) (h : Header) (mem : List ℕ) → Matches h mem s → (cs : List Check) → without 10 cs ≡ true → without 12 cs ≡ true → (Fit h → without 11 cs ≡ true) → (c : ℕ)
-    → refusal cs ≡ suc c → Right s (refused (suc c))
+refused_right : (s : Option Position) (h : Header) (mem : List ℕ) → Matches h mem s
+    → (cs : List Check) → without 10 cs ≡ true → without 12 cs ≡ true → (Fit h → without 11 cs ≡ true) → (c : ℕ) → refusal cs ≡ suc c → Right s (refused (suc c))
 refused_right none h mem m cs ten twelve eleven c e = (never 10 cs ten c e, never 12 cs twelve c e)
 refused_right (some q) h mem m cs ten twelve eleven c e = (never 10 cs ten c e, never 11 cs (eleven m.fit) c e, never 12 cs twelve c e)
 
 -- ---- open
-open_done : (s₀ : Option Position) (s store work literals rows store' literals' rows' : List ℕ) (answer : Result Opening Refusal) (h' : Header) (work' : List ℕ)
+pub open_done : (s₀ : Option Position) (s store work literals rows store' literals' rows' : List ℕ) (answer : Result Opening Refusal) (h' : Header) (work' : List ℕ)
     → OpenDone s store work literals rows h' answer store' work' literals' rows'
     → Right s₀ (open_event s answer h'.kept literals' rows') × Matches h' work' (after s₀ (open_event s answer h'.kept literals' rows'))
 open_done s₀ s store work literals rows store' literals' rows' (Err r) h' work' d = absurd d.leaves
@@ -103,7 +106,7 @@ open_step : (s₀ : Option Position) (h : Header) (mem : List ℕ) (words : ℕ)
     → Right s₀ (open_event s answer h'.kept literals' rows') × Matches h' (part ++ drop words mem) (after s₀ (open_event s answer h'.kept literals' rows'))
 open_step s₀ h mem words s store literals rows store' literals' rows' answer h' part m p = go (refused_or (refusal (open_checks s (length store) (length (take words mem)) (length literals) (length rows))))
   where
-    go : ((c : ℕ) × (refusal (open_checks s (length store) (length (take words mem)) (length literals) (length rows)) ≡ suc c)) ⊎ (refusal (open_checks s (length store) (length (take words mem)) (length literals) (length rows)) ≡ 0)
+    go : RefusedOrNot (refusal (open_checks s (length store) (length (take words mem)) (length literals) (length rows)))
         → Right s₀ (open_event s answer h'.kept literals' rows') × Matches h' (part ++ drop words mem) (after s₀ (open_event s answer h'.kept literals' rows'))
     go (inl w) =
         let e = p.refused w.0 w.1 in
@@ -133,7 +136,7 @@ assume_step s₀ h mem words code literals literals' answer h' part m p = go (re
     right_step q st l (Ok (Conflict v)) r = given q st l conflict r.said (some_one conflict r.said r.says) r.right r.stands
     right_step q st l (Ok (Taken x)) r = given q st l (implied (take x literals')) r.said (some_one (implied (take x literals')) r.said r.says) r.right r.stands
 
-    go : ((c : ℕ) × (refusal (assume_checks h (length (take words mem)) (length literals) code) ≡ suc c)) ⊎ (refusal (assume_checks h (length (take words mem)) (length literals) code) ≡ 0)
+    go : RefusedOrNot (refusal (assume_checks h (length (take words mem)) (length literals) code))
         → (s : Option Position) → Matches h mem s
         → Right s (assume_event code answer literals') × Matches h' (part ++ drop words mem) (after s (assume_event code answer literals'))
     go (inl w) s m =
@@ -147,7 +150,8 @@ assume_step s₀ h mem words code literals literals' answer h' part m p = go (re
         right_step q m (literal_of h (length (take words mem)) (length literals) code z) answer (p.right z q (lent_matches h mem words (some q) j.1 m))
 
 -- ---- back
-back_step : (s₀ : Option Position) (h : Header) (mem : List ℕ) (words depth number : ℕ) (h' : Header) (part : List ℕ) → Matches h mem s₀ → BackPromise h (take words mem) depth number h' part
+back_step : (s₀ : Option Position) (h : Header) (mem : List ℕ) (words depth number : ℕ) (h' : Header) (part : List ℕ)
+    → Matches h mem s₀ → BackPromise h (take words mem) depth number h' part
     → Right s₀ (back_event depth number) × Matches h' (part ++ drop words mem) (after s₀ (back_event depth number))
 back_step s₀ h mem words depth (suc c) h' part m p =
     let e = p.refused c refl in
@@ -178,7 +182,7 @@ explain_step s₀ h mem words v clause rows clause' rows' answer m p = go (refus
     right_step q st l (Ok e) f r =
         ((rw (ap (λ (z : Position). z.n) st.here) l, r.0, subst (Explanation q v) (sym (some_one _ r.1.0 r.1.1)) r.1.2), unchanged mem (take words mem) words (some q) refl refl st)
 
-    go : ((c : ℕ) × (refusal (explain_checks h (length (take words mem)) (length clause) (length rows) v) ≡ suc c)) ⊎ (refusal (explain_checks h (length (take words mem)) (length clause) (length rows) v) ≡ 0)
+    go : RefusedOrNot (refusal (explain_checks h (length (take words mem)) (length clause) (length rows) v))
         → (s : Option Position) → Matches h mem s
         → Right s (explain_event v answer clause' rows') × Matches h (take words mem ++ drop words mem) (after s (explain_event v answer clause' rows'))
     go (inl w) s m =
@@ -200,7 +204,8 @@ called_step s {h} {h'} mem part words m (backing depth number p) = back_step s h
 called_step s {h} {h'} mem part words m (explaining v clause rows clause' rows' answer p) = explain_step s h mem words v clause rows clause' rows' answer m p
 
 -- DEMAND 3
-pub demand : (s : Option Position) {h h' : Header} {mem mem' : List ℕ} → Matches h mem s → (cs : Calls Called h mem h' mem') → Runs s (events cs) × Matches h' mem' (at_end s (events cs))
+pub demand : (s : Option Position) {h h' : Header} {mem mem' : List ℕ} → Matches h mem s → (cs : Calls Called h mem h' mem')
+    → Runs s (events cs) × Matches h' mem' (at_end s (events cs))
 demand s m done = (tt, m)
 demand s {mem = mem} m (then {part = part} words c cs) =
     let e = called_step s mem part words m c in
@@ -226,14 +231,15 @@ abbrev later_events : List Event → List Event
 later_events [] = []
 later_events (e ∷ es) = es
 
-opening_step : (s : Option Position) {h h' : Header} {work work' : List ℕ} (c : Called h work h' work') → is_opening (event c) ≡ true → Right s (event c) × Matches h' work' (after s (event c))
+opening_step : (s : Option Position) {h h' : Header} {work work' : List ℕ} (c : Called h work h' work') → is_opening (event c) ≡ true
+    → Right s (event c) × Matches h' work' (after s (event c))
 opening_step s {h} {h'} {work} {work'} (opening sh store literals rows store' literals' rows' answer p) f = go (refused_or (refusal (open_checks sh (length store) (length work) (length literals) (length rows))))
   where
     none_here : (answer : Result Opening Refusal) (k : ℕ) → IsRefused answer k → is_opening (open_event sh answer h'.kept literals' rows') ≡ true → ⊥
     none_here (Ok x) k e g = e
     none_here (Err r) k e g = false≢true g
 
-    go : ((c : ℕ) × (refusal (open_checks sh (length store) (length work) (length literals) (length rows)) ≡ suc c)) ⊎ (refusal (open_checks sh (length store) (length work) (length literals) (length rows)) ≡ 0)
+    go : RefusedOrNot (refusal (open_checks sh (length store) (length work) (length literals) (length rows)))
         → Right s (open_event sh answer h'.kept literals' rows') × Matches h' work' (after s (open_event sh answer h'.kept literals' rows'))
     go (inl w) = absurd (none_here answer (suc w.0) (p.refused w.0 w.1).0 f)
     go (inr z) = open_done s sh store work literals rows store' literals' rows' answer h' work' (p.done z)
@@ -260,15 +266,18 @@ opening_step s (explaining v clause rows clause' rows' answer p) f = absurd (go 
     go (Err r) e = one_of (eqb (number r) 10) (number r) e
     go (Ok x) e = false≢true e
 
-after_opening : {h h' h'' : Header} (mem part mem'' : List ℕ) (words : ℕ) (c : Called h (take words mem) h' part) (cs : Calls Called h' (part ++ drop words mem) h'' mem'') → is_opening (event c) ≡ true
+after_opening : {h h' h'' : Header} (mem part mem'' : List ℕ) (words : ℕ) (c : Called h (take words mem) h' part)
+    (cs : Calls Called h' (part ++ drop words mem) h'' mem'') → is_opening (event c) ≡ true
     → Runs none (event c ∷ events cs) × Matches h'' mem'' (at_end none (event c ∷ events cs))
 after_opening {h' = h'} mem part mem'' words c cs f =
     let e = opening_step none c f in
     let g = demand (after none (event c)) (behind h' part (drop words mem) (after none (event c)) e.1) cs in
     ((e.0, g.0), g.1)
 
-pub demand_opened : {h h' : Header} {mem mem' : List ℕ} (cs : Calls Called h mem h' mem') (before later : List Event) (n : ℕ) (rows : Rows) (answer : OpenAnswer)
-    → events cs ≡ before ++ (opens n rows answer ∷ later) → Runs none (opens n rows answer ∷ later) × Matches h' mem' (at_end none (opens n rows answer ∷ later))
+pub demand_opened : {h h' : Header} {mem mem' : List ℕ} (cs : Calls Called h mem h' mem')
+    (before later : List Event) (n : ℕ) (rows : Rows) (answer : OpenAnswer)
+    → events cs ≡ before ++ (opens n rows answer ∷ later)
+    → Runs none (opens n rows answer ∷ later) × Matches h' mem' (at_end none (opens n rows answer ∷ later))
 demand_opened done [] later n rows answer e = absurd (cons_not_nil _ _ (sym e))
 demand_opened done (b ∷ before) later n rows answer e = absurd (cons_not_nil _ _ (sym e))
 demand_opened {h' = h'} {mem = mem} {mem' = mem'} (then {part = part} words c cs) [] later n rows answer e =

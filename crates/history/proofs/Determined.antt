@@ -4,13 +4,13 @@
 --   open_determined      for every input: answer, header, row store and answer buffers
 --   back_determined      for every input: number and header
 --   assume_determined, explain_determined   for every input that the checks refuse, and on a state that the module made: answer, header and answer buffers
---   assume_both, explain_both               the same from two working buffers that stand for one position
+--   open_both, assume_both, explain_both    the same from two working buffers of which the checks say the same, and which, but for open, stand for one position
 -- Of the working buffer the length and the words past the first 4,096 are determined too. Its first 4,096 words are not,
 -- nor are the answers on a foreign state where the checks refuse nothing.
 -- Assumes nothing.
 use mathlib.Core.Path.{◌≡◌, refl, sym, ap, ap₂, ◌∙◌}
 use mathlib.Core.Bool.{Bool, true, false, true≢false}
-use mathlib.Core.Logic.{◌⊎◌, inl, inr}
+use mathlib.Core.Logic.{inl, inr}
 use mathlib.Core.Option.{some}
 use mathlib.Core.List.{List, [], ◌++◌}
 use lib.ListN.{length, take, drop, take-append-drop, length-take}
@@ -37,7 +37,7 @@ use Rattle.parity.specs.declared.Assuming.{Assuming}
 use Rattle.parity.specs.declared.Assuming.TheVariants.{Held, Conflict, Taken}
 use Rattle.parity.specs.declared.Explained.{Explained}
 use Rattle.parity.specs.Promises.{Stands, Used, Worked, OpenPromise, OpenDone, open_checks, opens_with, AssumePromise, AssumeRight, AssumeLeaves, BackPromise, ExplainPromise, ExplainRight, ExplainLeaves}
-use Rattle.history.proofs.Demand.{refused_or, refused_same, some_one, none_some}
+use Rattle.history.proofs.Demand.{RefusedOrNot, refused_or, refused_same, some_one, none_some}
 
 -- ---- buffers
 used : (x : ℕ) (a : List ℕ) → x ≤ length a → length (take x a) ≡ x
@@ -81,33 +81,36 @@ count_of : OpenAnswer → ℕ
 count_of (unsatisfiable zs) = 0
 count_of (opened k zs) = k
 
-module _ (old : Header) (s store work literals rows : List ℕ) where
-  abbrev pub OpenRefusal : ℕ
-  OpenRefusal = refusal (open_checks s (length store) (length work) (length literals) (length rows))
+abbrev pub OpenRefusal : Header → List ℕ → List ℕ → List ℕ → List ℕ → List ℕ → ℕ
+OpenRefusal old s store work literals rows = refusal (open_checks s (length store) (length work) (length literals) (length rows))
 
-  room : OpenRefusal ≡ 0 → (n_of s ≤ length literals) × (m_of s ≤ length rows)
+pub open_keeps : (old : Header) (s store work literals rows : List ℕ) (h : Header) (x : Result Opening Refusal) (store₁ work₁ literals₁ rows₁ : List ℕ)
+    → OpenPromise old s store work literals rows h x store₁ work₁ literals₁ rows₁ → Worked work work₁
+open_keeps old s store work literals rows h x store₁ work₁ literals₁ rows₁ p = go (refused_or (OpenRefusal old s store work literals rows))
+  where
+    go : RefusedOrNot (OpenRefusal old s store work literals rows) → Worked work work₁
+    go (inl w) = as_it_was (p.refused w.0 w.1).3
+    go (inr z) = (p.done z).worked
+
+-- two working buffers of which the checks say the same: what they hold does not matter
+module _ (old : Header) (s store work work' literals rows : List ℕ)
+    (same : OpenRefusal old s store work' literals rows ≡ OpenRefusal old s store work literals rows) where
+  room : OpenRefusal old s store work literals rows ≡ 0 → (n_of s ≤ length literals) × (m_of s ≤ length rows)
   room z =
       let a = accepted (open_checks s (length store) (length work) (length literals) (length rows)) refl z in
       let f = none_either (ltb (length literals) (n_of s)) (ltb (length rows) (m_of s)) a.1.1.1.1.1.1.1.1.0 in
       (ltb-false (length literals) (n_of s) f.0, ltb-false (length rows) (m_of s) f.1)
 
-  pub open_keeps : (h : Header) (x : Result Opening Refusal) (store₁ work₁ literals₁ rows₁ : List ℕ)
-      → OpenPromise old s store work literals rows h x store₁ work₁ literals₁ rows₁ → Worked work work₁
-  open_keeps h x store₁ work₁ literals₁ rows₁ p = go (refused_or OpenRefusal)
-    where
-      go : ((c : ℕ) × (OpenRefusal ≡ suc c)) ⊎ (OpenRefusal ≡ 0) → Worked work work₁
-      go (inl w) = as_it_was (p.refused w.0 w.1).3
-      go (inr z) = (p.done z).worked
-
-  pub open_determined : (h k : Header) (x y : Result Opening Refusal) (store₁ store₂ work₁ work₂ literals₁ literals₂ rows₁ rows₂ : List ℕ)
-      → OpenPromise old s store work literals rows h x store₁ work₁ literals₁ rows₁ → OpenPromise old s store work literals rows k y store₂ work₂ literals₂ rows₂
-      → OpenSame h k x y store₁ store₂ work₁ work₂ literals₁ literals₂ rows₁ rows₂
+  pub open_both : (h k : Header) (x y : Result Opening Refusal) (store₁ store₂ work₁ work₂ literals₁ literals₂ rows₁ rows₂ : List ℕ)
+      → OpenPromise old s store work literals rows h x store₁ work₁ literals₁ rows₁ → OpenPromise old s store work' literals rows k y store₂ work₂ literals₂ rows₂
+      → (h ≡ k) × (x ≡ y) × (store₁ ≡ store₂) × (literals₁ ≡ literals₂) × (rows₁ ≡ rows₂)
   unfolding numbers_of count_of
-  open_determined h k x y store₁ store₂ work₁ work₂ literals₁ literals₂ rows₁ rows₂ p q = go (refused_or OpenRefusal)
+  open_both h k x y store₁ store₂ work₁ work₂ literals₁ literals₂ rows₁ rows₂ p q = go (refused_or (OpenRefusal old s store work literals rows))
     where
-      both : (z : OpenRefusal ≡ 0) (x y : Result Opening Refusal) (d : OpenDone s store work literals rows h x store₁ work₁ literals₁ rows₁)
-          (e : OpenDone s store work literals rows k y store₂ work₂ literals₂ rows₂)
-          → d.said ≡ e.said → OpenSame h k x y store₁ store₂ work₁ work₂ literals₁ literals₂ rows₁ rows₂
+      both : (z : OpenRefusal old s store work literals rows ≡ 0) (x y : Result Opening Refusal)
+          (d : OpenDone s store work literals rows h x store₁ work₁ literals₁ rows₁)
+          (e : OpenDone s store work' literals rows k y store₂ work₂ literals₂ rows₂)
+          → d.said ≡ e.said → (h ≡ k) × (x ≡ y) × (store₁ ≡ store₂) × (literals₁ ≡ literals₂) × (rows₁ ≡ rows₂)
       both z (Err r) y d e f = absurd d.leaves
       both z (Ok (Unsatisfiable a)) (Err r) d e f = absurd e.leaves
       both z (Ok (Opened a)) (Err r) d e f = absurd e.leaves
@@ -119,45 +122,40 @@ module _ (old : Header) (s store work literals rows : List ℕ) where
           let lb = e.leaves.1 in
           let r = (room z).1 in
           let w = same_buffer a b rows rows₁ rows₂ d.leaves.3 e.leaves.3 (omega arith) (omega arith) (ap numbers_of g) in
-          record {
-            header = d.leaves.0 ∙ sym e.leaves.0;
-            answer = ap (λ (u : ℕ). Ok (Unsatisfiable u)) w.0;
-            filled = d.filled ∙ sym e.filled;
-            long = d.worked.long ∙ sym e.worked.long;
-            past = d.worked.rest ∙ sym e.worked.rest;
-            listed = d.leaves.2 ∙ sym e.leaves.2;
-            numbers = w.1;
-          }
+          (d.leaves.0 ∙ sym e.leaves.0, ap (λ (u : ℕ). Ok (Unsatisfiable u)) w.0, d.filled ∙ sym e.filled, d.leaves.2 ∙ sym e.leaves.2, w.1)
       both z (Ok (Opened a)) (Ok (Opened b)) d e f =
           let g : opened h.kept (take a literals₁) ≡ opened k.kept (take b literals₂) = some_one _ d.said d.says ∙ f ∙ sym (some_one _ e.said e.says) in
           let la = d.leaves.1 in
           let lb = e.leaves.1 in
           let r = (room z).0 in
-          let w = same_buffer a b literals literals₁ literals₂ d.leaves.2 e.leaves.2 (omega arith) (omega arith) (ap numbers_of g) in
-          record {
-            header = d.leaves.0 ∙ ap (opens_with (n_of s) (m_of s)) (ap count_of g) ∙ sym e.leaves.0;
-            answer = ap (λ (u : ℕ). Ok (Opened u)) w.0;
-            filled = d.filled ∙ sym e.filled;
-            long = d.worked.long ∙ sym e.worked.long;
-            past = d.worked.rest ∙ sym e.worked.rest;
-            listed = w.1;
-            numbers = d.leaves.3 ∙ sym e.leaves.3;
-          }
+          let w = same_buffer a b literals literals₁ literals₂ d.leaves.2 e.leaves.2 (omega arith) (omega arith) (ap numbers_of g) in (
+            d.leaves.0 ∙ ap (opens_with (n_of s) (m_of s)) (ap count_of g) ∙ sym e.leaves.0,
+            ap (λ (u : ℕ). Ok (Opened u)) w.0,
+            d.filled ∙ sym e.filled,
+            w.1,
+            d.leaves.3 ∙ sym e.leaves.3,
+          )
 
-      go : ((c : ℕ) × (OpenRefusal ≡ suc c)) ⊎ (OpenRefusal ≡ 0) → OpenSame h k x y store₁ store₂ work₁ work₂ literals₁ literals₂ rows₁ rows₂
+      go : RefusedOrNot (OpenRefusal old s store work literals rows)
+          → (h ≡ k) × (x ≡ y) × (store₁ ≡ store₂) × (literals₁ ≡ literals₂) × (rows₁ ≡ rows₂)
       go (inl w) =
           let a = p.refused w.0 w.1 in
-          let b = q.refused w.0 w.1 in
-          record {
-            header = a.1 ∙ sym b.1;
-            answer = refused_same x y (suc w.0) a.0 b.0;
-            filled = a.2 ∙ sym b.2;
-            long = ap length (a.3 ∙ sym b.3);
-            past = ap (λ (z : List ℕ). drop size z) (a.3 ∙ sym b.3);
-            listed = a.4 ∙ sym b.4;
-            numbers = a.5 ∙ sym b.5;
-          }
-      go (inr z) = both z x y (p.done z) (q.done z) (open_unique (n_of s) (sheet_rows s) (p.done z).said (q.done z).said (p.done z).right (q.done z).right)
+          let b = q.refused w.0 (same ∙ w.1) in
+          (a.1 ∙ sym b.1, refused_same x y (suc w.0) a.0 b.0, a.2 ∙ sym b.2, a.4 ∙ sym b.4, a.5 ∙ sym b.5)
+      go (inr z) =
+          let d = p.done z in
+          let e = q.done (same ∙ z) in
+          both z x y d e (open_unique (n_of s) (sheet_rows s) d.said e.said d.right e.right)
+
+pub open_determined : (old : Header) (s store work literals rows : List ℕ) (h k : Header) (x y : Result Opening Refusal)
+    (store₁ store₂ work₁ work₂ literals₁ literals₂ rows₁ rows₂ : List ℕ)
+    → OpenPromise old s store work literals rows h x store₁ work₁ literals₁ rows₁ → OpenPromise old s store work literals rows k y store₂ work₂ literals₂ rows₂
+    → OpenSame h k x y store₁ store₂ work₁ work₂ literals₁ literals₂ rows₁ rows₂
+open_determined old s store work literals rows h k x y store₁ store₂ work₁ work₂ literals₁ literals₂ rows₁ rows₂ p q =
+    let e = open_both old s store work work literals rows refl h k x y store₁ store₂ work₁ work₂ literals₁ literals₂ rows₁ rows₂ p q in
+    let u = open_keeps old s store work literals rows h x store₁ work₁ literals₁ rows₁ p in
+    let v = open_keeps old s store work literals rows k y store₂ work₂ literals₂ rows₂ q in
+    record { header = e.0; answer = e.1; filled = e.2; long = u.long ∙ sym v.long; past = u.rest ∙ sym v.rest; listed = e.3; numbers = e.4 }
 
 -- ---- back
 pub back_keeps : (old : Header) (work : List ℕ) (depth number : ℕ) (h : Header) (work₁ : List ℕ)
@@ -215,7 +213,7 @@ module _ (old : Header) (work literals : List ℕ) (code : ℕ) where
       left (Ok (Conflict v)) l = as_it_was l.2
       left (Ok (Taken u)) l = l.3
 
-      go : ((c : ℕ) × (AssumeRefusal old work literals code ≡ suc c)) ⊎ (AssumeRefusal old work literals code ≡ 0) → Worked work work₁
+      go : RefusedOrNot (AssumeRefusal old work literals code) → Worked work work₁
       go (inl w) = as_it_was (a.refused w.0 w.1).2
       go (inr z) = left x (a.leaves z)
 
@@ -254,7 +252,7 @@ module _ (old : Header) (work work' literals : List ℕ) (code : ℕ) (same : As
       both z p (Ok (Taken u)) (Ok Held) l m c d f = absurd (omega (arith, tags (implied (take u literals₁)) held _ _ c.says d.says f))
       both z p (Ok (Taken u)) (Ok (Conflict w)) l m c d f = absurd (omega (arith, tags (implied (take u literals₁)) conflict _ _ c.says d.says f))
 
-      go : ((c : ℕ) × (AssumeRefusal old work literals code ≡ suc c)) ⊎ (AssumeRefusal old work literals code ≡ 0) → (h ≡ k) × (x ≡ y) × (literals₁ ≡ literals₂)
+      go : RefusedOrNot (AssumeRefusal old work literals code) → (h ≡ k) × (x ≡ y) × (literals₁ ≡ literals₂)
       go (inl w) =
           let e = a.refused w.0 w.1 in
           let f = b.refused w.0 (same ∙ w.1) in
@@ -316,7 +314,7 @@ module _ (h : Header) (work work' clause rows : List ℕ) (v : ℕ) (same : Expl
           let rs = same_buffer a.numbers b.numbers rows rows₁ rows₂ l.3 m.3 (omega arith) (omega arith) (ap (λ (w : ExplainAnswer). w.numbers) g) in
           record { answer = ap₂ (λ (u w : ℕ). Ok (record { codes = u; numbers = w })) cs.0 rs.0; clauses = cs.1; numbers = rs.1 }
 
-      go : ((c : ℕ) × (ExplainRefusal h work clause rows v ≡ suc c)) ⊎ (ExplainRefusal h work clause rows v ≡ 0) → ExplainSame x y clause₁ clause₂ rows₁ rows₂
+      go : RefusedOrNot (ExplainRefusal h work clause rows v) → ExplainSame x y clause₁ clause₂ rows₁ rows₂
       go (inl w) =
           let e = a.refused w.0 w.1 in
           let f = b.refused w.0 (same ∙ w.1) in

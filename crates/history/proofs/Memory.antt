@@ -29,12 +29,14 @@ front_matches h mem mem' (some p) e m = front_stands e m
 pub long : {h : Header} {work : List ℕ} {p : Position} → Stands h work p → size ≤ length work
 long {work = work} st = let l = st.made.room in let e = length-take size work in omega arith
 
-pub lent_matches : (h : Header) (mem : List ℕ) (words : ℕ) (s : Option Position) → size ≤ length (take words mem) → Matches h mem s → Matches h (take words mem) s
+pub lent_matches : (h : Header) (mem : List ℕ) (words : ℕ) (s : Option Position)
+    → size ≤ length (take words mem) → Matches h mem s → Matches h (take words mem) s
 lent_matches h mem words s l m = front_matches h mem (take words mem) s (sym (take-take size words mem (let e = length-take words mem in omega arith))) m
 
 pub behind : (h : Header) (part rest : List ℕ) (s : Option Position) → Matches h part s → Matches h (part ++ rest) s
 behind h part rest none m = m
 behind h part rest (some p) m = front_stands (sym (take-append-le size part rest (long m))) m
 
-pub unchanged : {h h' : Header} (mem part : List ℕ) (words : ℕ) (s : Option Position) → h' ≡ h → part ≡ take words mem → Matches h mem s → Matches h' (part ++ drop words mem) s
+pub unchanged : {h h' : Header} (mem part : List ℕ) (words : ℕ) (s : Option Position) → h' ≡ h → part ≡ take words mem
+    → Matches h mem s → Matches h' (part ++ drop words mem) s
 unchanged mem part words s a b m = rw (a, b, take-append-drop words mem) m

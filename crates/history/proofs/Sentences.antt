@@ -12,7 +12,7 @@ use mathlib.Core.Logic.{◌⊎◌, inl, inr, ◌↔◌}
 use mathlib.Core.List.{List}
 use lib.ListN.{length, take}
 use lib.Dec.{ltb}
-use Prim.Native.Nat.{ℕ, suc, ◌+◌, ◌*◌, ◌<◌, ◌≤◌}
+use Prim.Native.Nat.{ℕ, ◌+◌, ◌*◌, ◌<◌, ◌≤◌}
 use native.Mathlib.Omega.{arith}
 use borrow.Author.Tests.{lt-ltb, le-ltb, ltb-true, ltb-false}
 use Rattle.std.specs.Prelude.{Result, Ok, Err}
@@ -35,7 +35,7 @@ use Rattle.parity.specs.declared.Assuming.TheVariants.{Conflict}
 use Rattle.parity.specs.declared.Explained.{Explained}
 use Rattle.parity.specs.Promises.{Stands, AssumePromise, ExplainPromise, ExplainLeaves}
 use Rattle.history.proofs.Memory.{front_stands}
-use Rattle.history.proofs.Demand.{refused_or}
+use Rattle.history.proofs.Demand.{RefusedOrNot, refused_or}
 use Rattle.history.proofs.Determined.{AssumeRefusal, ExplainRefusal}
 use Rattle.history.proofs.Exactly.{conflict_exactly, unexplained_exactly}
 use Rattle.history.proofs.Accepted.{assume_accepted, explain_accepted}
@@ -66,7 +66,7 @@ module _ (h : Header) (work literals : List ℕ) (code : ℕ) (p : Position) (st
       × (((x : Explained) × (answer ≡ Ok x)) ↔ ((k : ℕ) × (k ∈ p.taken) × (variable k ≡ v) → ⊥))
   conflict_then_explain = (ten, (λ w b. refused_not w (ten.1 b), λ none. answers_else answer (explain.leaves accepted) (λ t. none (ten.0 t))))
     where
-      zero_of : ((c : ℕ) × (AssumeRefusal h work literals code ≡ suc c)) ⊎ (AssumeRefusal h work literals code ≡ 0) → AssumeRefusal h work literals code ≡ 0
+      zero_of : RefusedOrNot (AssumeRefusal h work literals code) → AssumeRefusal h work literals code ≡ 0
       zero_of (inl w) = absurd (assume.refused w.0 w.1).0
       zero_of (inr z) = z
 
@@ -96,12 +96,14 @@ module _ (h : Header) (work literals : List ℕ) (code : ℕ) (p : Position) (st
       refused_not : (x : Explained) × (answer ≡ Ok x) → IsRefused answer 10 → ⊥
       refused_not w r = subst (λ (a : Result Explained Refusal). IsRefused a 10) w.1 r
 
-      answers_else : (answer : Result Explained Refusal) → ExplainLeaves h' answer clause rows clause' rows' → (IsRefused answer 10 → ⊥) → (x : Explained) × (answer ≡ Ok x)
+      answers_else : (answer : Result Explained Refusal) → ExplainLeaves h' answer clause rows clause' rows'
+          → (IsRefused answer 10 → ⊥) → (x : Explained) × (answer ≡ Ok x)
       answers_else (Err r) l none = absurd (none l.0)
       answers_else (Ok x) l none = (x, refl)
 
 -- ---- the code of an assume
-pub out_of_range : (h : Header) (words room code : ℕ) → Fit h → 4096 ≤ words → h.n ≤ room → (code < 2) ⊎ (2 * h.n + 1 < code) → refusal (assume_checks h words room code) ≡ 8
+pub out_of_range : (h : Header) (words room code : ℕ) → Fit h → 4096 ≤ words → h.n ≤ room → (code < 2) ⊎ (2 * h.n + 1 < code)
+    → refusal (assume_checks h words room code) ≡ 8
 out_of_range h words room code f w r (inl l) = rw (is_fit h f, le-ltb words 4096 w, le-ltb room h.n r, lt-ltb code 2 l) refl
 out_of_range h words room code f w r (inr l) = rw (is_fit h f, le-ltb words 4096 w, le-ltb room h.n r, lt-ltb (2 * h.n + 1) code l, or-true) refl
 

@@ -1,9 +1,9 @@
 -- CALLS ON ONE STATE, known by their promises alone, and the events of the definitions that they are.
 --   Called h work h' work'   one call of open, assume, back or explain took the state (h, work) to (h', work'), and its promise holds
 --   event                    the call with its answer, as demand 3 reads it; open_event, assume_event, back_event, explain_event: of each kind of call
---   Calls Call h mem h' mem' any list of calls, one after another, on one memory. Each is lent the front of it, as many words as its caller says, too few among them,
---                            and the words behind those stay. Between two calls the memory may be replaced by another one with the same first 4,096 words:
---                            a state may be copied. Call says what one call is: Called here, and in capi a call of an export
+--   Calls Call h mem h' mem' any list of calls, one after another, on one memory. Each is lent the front of it, as many words as its caller says
+--                            (they may be too few), and the words behind those stay. Between two calls the memory may be replaced by another one
+--                            with the same first 4,096 words: a state may be copied. Call says what one call is: Called, or in capi a call of an export
 --   events                   the events of a list of calls, in order; events_by: of calls of any kind, given the event of one
 --   Matches h mem s          the state is one that the module made for what is open; where nothing is, the header is not open
 --   Counted h p              the numbers of the header are those of the position: its variables, its rows, its taken literals, its kept rows
