@@ -1,11 +1,14 @@
 -- CALLS ON ONE STATE, known by their promises alone, and the events of the definitions that they are.
 --   Called h work h' work'   one call of open, assume, back or explain took the state (h, work) to (h', work'), and its promise holds
 --   event                    the call with its answer, as demand 3 reads it; open_event, assume_event, back_event, explain_event: of each kind of call
---   Calls, events            any list of calls, one after another
---   Matches h work s         the state is one that the module made for what is open; where nothing is, the header is not open
+--   Calls Call h mem h' mem' any list of calls, one after another, on one memory. Each is lent the front of it, as many words as its caller says
+--                            (they may be too few), and the words behind those stay. Between two calls the memory may be replaced by another one
+--                            with the same first 4,096 words: a state may be copied. Call says what one call is: Called, or in capi a call of an export
+--   events                   the events of a list of calls, in order; events_by: of calls of any kind, given the event of one
+--   Matches h mem s          the state is one that the module made for what is open; where nothing is, the header is not open
 --   Counted h p              the numbers of the header are those of the position: its variables, its rows, its taken literals, its kept rows
 -- Assumes nothing.
-use Rattle.std.specs.Prelude.{◌≡◌, cond, List, [], ◌∷◌, eqb, length, ℕ, zero, suc, Result}
+use Rattle.std.specs.Prelude.{◌≡◌, cond, List, [], ◌∷◌, ◌++◌, eqb, length, take, drop, ℕ, zero, suc, Result}
 use Rattle.std.proofs.Math.Option.{Option, none, some}
 use Rattle.gf2.specs.Rows.{Rows, Kept}
 use Rattle.gf2.specs.Answers.{Position, OpenAnswer, AssumeAnswer, ExplainAnswer}
@@ -13,6 +16,7 @@ use Rattle.gf2.specs.History.{Event, opens, assumes, backs, explains, unexplaine
 use Rattle.format.specs.Sheet.{n_of, sheet_rows}
 use Rattle.format.specs.declared.Refusal.{Refusal}
 use Rattle.judge.specs.declared.Header.{Header}
+use Rattle.tableau.specs.Layout.{size}
 use Rattle.parity.specs.declared.Opening.{Opening}
 use Rattle.parity.specs.declared.Assuming.{Assuming}
 use Rattle.parity.specs.declared.Explained.{Explained}
@@ -60,17 +64,26 @@ event (assuming code literals literals' answer promise) = assume_event code answ
 event (backing depth number promise) = back_event depth number
 event (explaining v clause rows clause' rows' answer promise) = explain_event v answer clause' rows'
 
-pub data Calls : Header → List ℕ → Header → List ℕ → Type 0 where
-  done : {h : Header} {work : List ℕ} → Calls h work h work
-  then : {h h' h'' : Header} {work work' work'' : List ℕ} → Called h work h' work' → Calls h' work' h'' work'' → Calls h work h'' work''
+pub data Calls (Call : Header → List ℕ → Header → List ℕ → Type 0) : Header → List ℕ → Header → List ℕ → Type 0 where
+  done : {h : Header} {mem : List ℕ} → Calls Call h mem h mem
+  then : {h h' h'' : Header} {mem part mem'' : List ℕ} (words : ℕ)
+      → Call h (take words mem) h' part → Calls Call h' (part ++ drop words mem) h'' mem'' → Calls Call h mem h'' mem''
+  copied : {h h'' : Header} {mem mem' mem'' : List ℕ}
+      → take size mem ≡ take size mem' → Calls Call h mem' h'' mem'' → Calls Call h mem h'' mem''
 
-abbrev pub events : {h h' : Header} {work work' : List ℕ} → Calls h work h' work' → List Event
-events done = []
-events (then c cs) = event c ∷ events cs
+module _ {Call : Header → List ℕ → Header → List ℕ → Type 0}
+    (event_of : (h : Header) (work : List ℕ) (h' : Header) (work' : List ℕ) → Call h work h' work' → Event) where
+  abbrev pub events_by : {h h' : Header} {mem mem' : List ℕ} → Calls Call h mem h' mem' → List Event
+  events_by done = []
+  events_by (then words c cs) = event_of _ _ _ _ c ∷ events_by cs
+  events_by (copied same cs) = events_by cs
+
+abbrev pub events : {h h' : Header} {mem mem' : List ℕ} → Calls Called h mem h' mem' → List Event
+events cs = events_by (λ h work h' work' c. event c) cs
 
 abbrev pub Matches : Header → List ℕ → Option Position → Type 0
-Matches h work none = h.«open» ≡ 1 → ⊥
-Matches h work (some p) = Stands h work p
+Matches h mem none = h.«open» ≡ 1 → ⊥
+Matches h mem (some p) = Stands h mem p
 
 pub record Counted (h : Header) (p : Position) : Type 0 where
   pub variables : h.n ≡ p.n
