@@ -1,0 +1,7 @@
+pub mod Answering
+pub mod Starting
+pub mod Playing
+pub mod Filling
+pub mod Speaking
+pub mod Sole
+pub mod Worked

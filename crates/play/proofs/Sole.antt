@@ -1,0 +1,230 @@
+-- WHAT A SESSION SAYS IS ONE TEXT: there is one for every input, and no other.
+--   answered_same, commands_same, session_same   what is said of a command, of the commands in some bytes, of an input, is one text
+--   answered_one, commands_one, session_one      and there is one
+--   next_reached     the position after a command is one that calls lead to
+-- Assumes nothing.
+use mathlib.Core.Path.{◌≡◌, refl, sym, ap, ap₂, ◌∙◌, subst}
+use mathlib.Core.Logic.{◌⊎◌, inl, inr, ◌≢◌}
+use mathlib.Core.Bool.{Bool, true, false, true≢false}
+use mathlib.Core.List.{List, [], ◌∷◌, ◌++◌}
+use Prim.Native.Nat.{ℕ, zero, suc, ◌/◌, ◌<◌, ◌≤◌}
+use native.Mathlib.Omega.{arith}
+use lib.ListN.{length, drop}
+use Rattle.gf2.specs.Lists.{◌∈◌, All}
+use Rattle.gf2.specs.Rows.{Var}
+use Rattle.gf2.specs.Answers.{code, variable, value, Implied, Position, start, Literal, moved, withdrawn, held, conflict, implied, ExplainAnswer, AnswersExplain, OpenAnswer, opened, unsatisfiable, AnswersOpen, Unexplained, Reached}
+use Rattle.gf2.proofs.Literals.{code_of}
+use Rattle.gf2.proofs.Sums.{same_dec}
+use Rattle.gf2.proofs.Sure.{One, open_one, assume_one, explain_one, explains_implied}
+use Rattle.gf2.proofs.Unique.{open_unique, assume_unique}
+use Rattle.gf2.proofs.Explained.{explain_unique, explanation}
+use Rattle.gf2.proofs.Reach.{reached_fits, reached_solution, opened_reached, assumed_reached, withdrawn_reached}
+use Rattle.format.specs.Sheet.{n_of, sheet_rows}
+use Rattle.lines.specs.Lines.{Said, text}
+use Rattle.history.proofs.Demand.{refused_or}
+use Rattle.dialogue.specs.Dialogue.{sheet_end, command_of}
+use Rattle.play.specs.Session.{sheet_part, command_part, sheet_refusal, opening_line, assume_line, Answered, assumed, no_literal, gone_back, too_deep, explained, unexplained, no_variable, kind, operand, Commands, over, ended, then, Session, refused, contradicted, commanded}
+use Rattle.play.proofs.Answering.{enough_or}
+
+-- ---- at most one
+answered_same : (p : Position) → Reached p → {k i : ℕ} {a b : Said} {q r : Position} → Answered p k i a q → Answered p k i b r → (a ≡ b) × (q ≡ r)
+answered_same p g (assumed {l} x m f) (assumed y n h) =
+    let e = assume_unique p (reached_solution p g) l x y f h in
+    (ap (assume_line l) e, ap (moved p l) e)
+answered_same p g (assumed x m f) (no_literal n) = absurd (n m)
+answered_same p g (no_literal n) (assumed x m f) = absurd (n m)
+answered_same p g (no_literal n) (no_literal m) = (refl, refl)
+answered_same p g (gone_back m) (gone_back n) = (refl, refl)
+answered_same p g (gone_back m) (too_deep n) = absurd (omega arith)
+answered_same p g (too_deep m) (gone_back n) = absurd (omega arith)
+answered_same p g (too_deep m) (too_deep n) = (refl, refl)
+answered_same p g (explained {v} x m u f) (explained y n w h) =
+    let e = explain_unique p g v x y f.answers h.answers in
+    (ap (λ (z : ExplainAnswer). Said.explained v z.clause z.numbers) e, refl)
+answered_same p g (explained x m u f) (unexplained n w) = absurd (u w)
+answered_same p g (explained x m u f) (no_variable n) = absurd (n m)
+answered_same p g (unexplained n w) (explained x m u f) = absurd (u w)
+answered_same p g (unexplained m u) (unexplained n w) = (refl, refl)
+answered_same p g (unexplained m u) (no_variable n) = absurd (n m)
+answered_same p g (no_variable n) (explained x m u f) = absurd (n m)
+answered_same p g (no_variable n) (unexplained m u) = absurd (n m)
+answered_same p g (no_variable m) (no_variable n) = (refl, refl)
+
+next_reached : (p : Position) → Reached p → {k i : ℕ} {said : Said} {q : Position} → Answered p k i said q → Reached q
+next_reached p g (assumed {l} held m f) = g
+next_reached p g (assumed {l} conflict m f) = g
+next_reached p g (assumed {l} (implied list) m f) = assumed_reached p g l m list f
+next_reached p g (no_literal n) = g
+next_reached p g (gone_back {d} m) = withdrawn_reached p g d
+next_reached p g (too_deep m) = g
+next_reached p g (explained x m u f) = g
+next_reached p g (unexplained m u) = g
+next_reached p g (no_variable n) = g
+
+-- no command of kind 0 is answered
+kind_pos : {p q : Position} {k i : ℕ} {said : Said} → Answered p k i said q → 1 ≤ k
+kind_pos (assumed x m f) = omega arith
+kind_pos (no_literal n) = omega arith
+kind_pos (gone_back m) = omega arith
+kind_pos (too_deep m) = omega arith
+kind_pos (explained x m u f) = omega arith
+kind_pos (unexplained m u) = omega arith
+kind_pos (no_variable n) = omega arith
+
+pub commands_same : {p : Position} → Reached p → {bytes t u : List ℕ} → Commands p bytes t → Commands p bytes u → t ≡ u
+commands_same g (over l) (over m) = refl
+commands_same g (over l) (ended e) = absurd (omega arith)
+commands_same g (over l) (then a cs) = absurd (omega arith)
+commands_same g (ended e) (over l) = absurd (omega arith)
+commands_same g (ended e) (ended f) = refl
+commands_same g (ended e) (then a cs) = let k = kind_pos a in absurd (omega arith)
+commands_same g (then a cs) (over l) = absurd (omega arith)
+commands_same g (then a cs) (ended e) = let k = kind_pos a in absurd (omega arith)
+commands_same {p} g (then {bytes = bytes} {more = t} a cs) (then {more = u} b ds) =
+    let e = answered_same p g a b in
+    ap₂ ◌++◌ (ap text e.0) (commands_same (next_reached p g a) cs (subst (λ (q : Position). Commands q bytes u) (sym e.1) ds))
+
+not_both : (rows codes : List ℕ) (kept : ℕ) → unsatisfiable rows ≡ opened kept codes → ⊥
+not_both rows codes kept e = true≢false (ap fails e)
+  where
+    fails : OpenAnswer → Bool
+    fails (unsatisfiable list) = true
+    fails (opened count list) = false
+
+checked_same : {a b : ℕ} → a ≡ suc b → a ≡ 0 → ⊥
+checked_same e f = let g = sym e ∙ f in omega arith
+
+pub session_same : {s t u : List ℕ} → Session s t → Session s u → t ≡ u
+session_same (refused e) (refused f) = let g = sym e ∙ f in ap (λ (k : ℕ). text (Said.refused k)) g
+session_same (refused e) (contradicted z f) = absurd (checked_same e z)
+session_same (refused e) (commanded z f cs) = absurd (checked_same e z)
+session_same (contradicted z f) (refused e) = absurd (checked_same e z)
+session_same {s} (contradicted {rows} z f) (contradicted {rows = list} y g) =
+    let e : unsatisfiable rows ≡ unsatisfiable list = open_unique (n_of (sheet_part s)) (sheet_rows (sheet_part s)) (unsatisfiable rows) (unsatisfiable list) f g in
+    ap (λ (a : OpenAnswer). text (opening_line a)) e
+session_same {s} (contradicted {rows} z f) (commanded {kept} {codes} y g cs) =
+    absurd (not_both rows codes kept (open_unique (n_of (sheet_part s)) (sheet_rows (sheet_part s)) (unsatisfiable rows) (opened kept codes) f g))
+session_same (commanded z f cs) (refused e) = absurd (checked_same e z)
+session_same {s} (commanded {kept} {codes} y g cs) (contradicted {rows} z f) =
+    absurd (not_both rows codes kept (open_unique (n_of (sheet_part s)) (sheet_rows (sheet_part s)) (unsatisfiable rows) (opened kept codes) f g))
+session_same {s} (commanded {kept} {codes} z f cs) (commanded {kept = count} {codes = list} y g ds) =
+    let e : opened kept codes ≡ opened count list = open_unique (n_of (sheet_part s)) (sheet_rows (sheet_part s)) (opened kept codes) (opened count list) f g in
+    ap₂ ◌++◌ (ap (λ (a : OpenAnswer). text (opening_line a)) e) (commands_same (opened_reached (n_of (sheet_part s)) (sheet_rows (sheet_part s)) kept codes f) cs ds)
+
+-- ---- at least one
+-- TEMPORARY
+taken_dec : (v : ℕ) (ls : List ℕ) → ((l : ℕ) × (l ∈ ls) × (variable l ≡ v)) ⊎ ((l : ℕ) → l ∈ ls → variable l ≢ v)
+taken_dec v [] = inr (λ l m. absurd m)
+taken_dec v (k ∷ ls) = go (same_dec (variable k) v) (taken_dec v ls)
+  where
+    skip_it : variable k ≢ v → ((l : ℕ) → l ∈ ls → variable l ≢ v) → (l : ℕ) → (l ≡ k) ⊎ (l ∈ ls) → variable l ≢ v
+    skip_it ne h l (inl e) = rw e ne
+    skip_it ne h l (inr m) = h l m
+
+    go : (variable k ≡ v) ⊎ (variable k ≢ v) → ((l : ℕ) × (l ∈ ls) × (variable l ≡ v)) ⊎ ((l : ℕ) → l ∈ ls → variable l ≢ v) → ((l : ℕ) × (l ∈ (k ∷ ls)) × (variable l ≡ v)) ⊎ ((l : ℕ) → l ∈ (k ∷ ls) → variable l ≢ v)
+    go (inl e) o = inl (k, inl refl, e)
+    go (inr ne) (inl w) = inl (w.0, inr w.1, w.2)
+    go (inr ne) (inr h) = inr (skip_it ne h)
+
+explain_sure : (p : Position) → Reached p → (v : ℕ) → Var p.n v → Unexplained p v ⊎ ((Unexplained p v → ⊥) × One ExplainAnswer (AnswersExplain p v))
+explain_sure p g v m = go (taken_dec v p.taken) (explain_one p g v m)
+  where
+    valued : (x : ExplainAnswer) → AnswersExplain p v x → ((b : Bool) → Implied p (code v b) → ⊥) → ⊥
+    valued x e neither =
+        neither (value e.literal)
+        (rw (← e.of_v, code_of e.literal)
+        (explains_implied p (reached_fits p g) e.literal (record { low = rw e.of_v m.low; high = rw e.of_v m.high }) e.rows e.cited e.explains))
+
+    both : ((l : ℕ) → l ∈ p.taken → variable l ≢ v) → (x : ExplainAnswer) → AnswersExplain p v x → Unexplained p v → ⊥
+    both h x e (inl n) = valued x e n
+    both h x e (inr w) = h w.0 w.1 w.2
+
+    go : ((l : ℕ) × (l ∈ p.taken) × (variable l ≡ v)) ⊎ ((l : ℕ) → l ∈ p.taken → variable l ≢ v) → Unexplained p v ⊎ One ExplainAnswer (AnswersExplain p v)
+        → Unexplained p v ⊎ ((Unexplained p v → ⊥) × One ExplainAnswer (AnswersExplain p v))
+    go (inl w) o = inl (inr w)
+    go (inr h) (inl u) = inl u
+    go (inr h) (inr x) = inr (both h x.0 x.1, x)
+
+literal_or : (n v : ℕ) → Var n v ⊎ (Var n v → ⊥)
+literal_or n v = go (enough_or 1 v) (enough_or v n)
+  where
+    go : (1 ≤ v) ⊎ (v < 1) → (v ≤ n) ⊎ (n < v) → Var n v ⊎ (Var n v → ⊥)
+    go (inl a) (inl b) = inl (record { low = a; high = b })
+    go (inr a) b = inr (λ x. let l = x.low in omega arith)
+    go (inl a) (inr b) = inr (λ x. let h = x.high in omega arith)
+
+abbrev Answer : Position → ℕ → ℕ → Type 0
+Answer p k i = (said : Said) × (q : Position) × Answered p k i said q
+
+assume_answered : (p : Position) → Reached p → (l : ℕ) → Answer p 1 l
+assume_answered p g l = go (literal_or p.n (l / 2))
+  where
+    go : Literal p.n l ⊎ (Literal p.n l → ⊥) → Answer p 1 l
+    go (inl m) = let a = assume_one p g l m in (assume_line l a.0, moved p l a.0, assumed a.0 m a.1)
+    go (inr n) = (Said.refused 8, p, no_literal n)
+
+back_answered : (p : Position) (d : ℕ) → Answer p 2 d
+back_answered p d = go (enough_or d (length p.taken))
+  where
+    go : (d ≤ length p.taken) ⊎ (length p.taken < d) → Answer p 2 d
+    go (inl m) = (Said.back d, withdrawn p d, gone_back m)
+    go (inr m) = (Said.refused 9, p, too_deep m)
+
+explain_answered : (p : Position) → Reached p → (v : ℕ) → Answer p 3 v
+explain_answered p g v = go (literal_or p.n v)
+  where
+    told : Var p.n v → Unexplained p v ⊎ ((Unexplained p v → ⊥) × One ExplainAnswer (AnswersExplain p v)) → Answer p 3 v
+    told m (inl u) = (Said.refused 10, p, unexplained m u)
+    told m (inr w) = (Said.explained v w.1.0.clause w.1.0.numbers, p, explained w.1.0 m w.0 (explanation p g v m w.1.0 w.1.1))
+
+    go : Var p.n v ⊎ (Var p.n v → ⊥) → Answer p 3 v
+    go (inl m) = told m (explain_sure p g v m)
+    go (inr n) = (Said.refused 8, p, no_variable n)
+
+command_answered : (p : Position) → Reached p → (k i : ℕ) → 1 ≤ k → k < 4 → Answer p k i
+command_answered p g k i low high = go (same_dec k 1) (same_dec k 2)
+  where
+    go : (k ≡ 1) ⊎ (k ≢ 1) → (k ≡ 2) ⊎ (k ≢ 2) → Answer p k i
+    go (inl e) f = rw e (assume_answered p g i)
+    go (inr n) (inl f) = rw f (back_answered p i)
+    go (inr n) (inr m) = let e : k ≡ 3 = omega (arith, n, m) in rw e (explain_answered p g i)
+
+-- a list of bytes
+abbrev pub Bytes : List ℕ → Type 0
+Bytes s = All (λ b. b < 256) s
+
+pub commands_one : (p : Position) → Reached p → (bytes : List ℕ) → Bytes bytes → (t : List ℕ) × Commands p bytes t
+commands_one p g [] b = ([], over (omega arith))
+commands_one p g (high ∷ []) b = ([], over (omega arith))
+commands_one p g (high ∷ low ∷ bytes) b = go (λ q r. commands_one q r bytes b.1.1) (same_dec (kind (command_of high low)) 0)
+  where
+    go : ((q : Position) → Reached q → (t : List ℕ) × Commands q bytes t) → (kind (command_of high low) ≡ 0) ⊎ (kind (command_of high low) ≢ 0) → (t : List ℕ) × Commands p (high ∷ low ∷ bytes) t
+    go more (inl e) = ([], ended e)
+    go more (inr n) =
+        let h = b.0 in
+        let l = b.1.0 in
+        let a = command_answered p g (kind (command_of high low)) (operand (command_of high low)) (omega (arith, n)) (omega arith) in
+        let cs = more a.1 (next_reached p g a.2) in
+        (text a.0 ++ cs.0, then a.2 cs.1)
+
+all_drop : (k : ℕ) (s : List ℕ) → Bytes s → Bytes (drop k s)
+all_drop zero s b = b
+all_drop (suc k) [] b = b
+all_drop (suc k) (x ∷ s) b = all_drop k s b.1
+
+pub session_one : (s : List ℕ) → Bytes s → One (List ℕ) (Session s)
+session_one s b = (there.0, there.1, λ y h. session_same h there.1)
+  where
+    opens : sheet_refusal s ≡ 0 → (a : OpenAnswer) → AnswersOpen (n_of (sheet_part s)) (sheet_rows (sheet_part s)) a → (t : List ℕ) × Session s t
+    opens z (unsatisfiable rows) f = (text (opening_line (unsatisfiable rows)), contradicted z f)
+    opens z (opened kept codes) f =
+        let cs = commands_one (start (n_of (sheet_part s)) (sheet_rows (sheet_part s))) (opened_reached (n_of (sheet_part s)) (sheet_rows (sheet_part s)) kept codes f)
+        (command_part s) (all_drop (sheet_end s) s b) in
+        (text (opening_line (opened kept codes)) ++ cs.0, commanded z f cs.1)
+
+    there : (t : List ℕ) × Session s t
+    there = go (refused_or (sheet_refusal s))
+      where
+        go : ((c : ℕ) × (sheet_refusal s ≡ suc c)) ⊎ (sheet_refusal s ≡ 0) → (t : List ℕ) × Session s t
+        go (inl w) = (text (Said.refused (suc w.0)), refused w.1)
+        go (inr z) = let a = open_one (n_of (sheet_part s)) (sheet_rows (sheet_part s)) in opens z a.0 a.1

@@ -1,0 +1,48 @@
+-- WHAT THE PAGES OF A SESSION HOLD.
+--   Roomy                buffers that are large enough for every sheet and every answer, and a page for every line
+--   Continued P s r ..   more may follow page r: the state stands for a position, and with what the commands from there say the text of the page makes a text of P
+--   Paged P s r ..       a page of a text of P: the whole of it, or more may follow
+--   Appended             a command whose line was put into a page from place `at` on
+--   Spoken s old new     a writer's known bytes grew by what the session on s says
+-- Assumes nothing.
+use Rattle.std.specs.Prelude.{◌≡◌, true, false, List, ◌++◌, length, take, drop, ℕ, ◌+◌, ◌≤◌, Option}
+use Rattle.std.specs.Io.KnownBytes.{Appends}
+use Rattle.gf2.specs.Answers.{Position}
+use Rattle.judge.specs.declared.Header.{Header}
+use Rattle.lines.specs.Lines.{Put}
+use Rattle.parity.specs.Promises.{Stands}
+use Rattle.dialogue.specs.Steps.{room, Turns}
+use Rattle.dialogue.specs.declared.Step.{Step}
+use Rattle.play.specs.declared.Page.{Page}
+use Rattle.play.specs.Session.{Session, Commands}
+
+pub record Roomy (work literals rows page : List ℕ) : Type 0 where
+  pub work_long : 4096 ≤ length work
+  pub literals_long : 512 ≤ length literals
+  pub rows_long : 256 ≤ length rows
+  pub page_long : room ≤ length page
+
+pub record Continued (P : List ℕ → Type 0) (s : List ℕ) (r : Page) (work' page' : List ℕ) : Type 0 where
+  pub position : Position
+  pub stands : Stands r.header work' position
+  pub after : (more : List ℕ) → Commands position (drop r.at s) more → P (take r.end page' ++ more)
+
+-- `put` says that the text of the page is what stands in it before `end`, which lies within it; that it keeps its length, and what stood in it from `end` on
+pub record Paged (P : List ℕ → Type 0) (s : List ℕ) (r : Page) (work' page page' : List ℕ) : Type 0 where
+  pub put : Put page 0 (take r.end page') page' r.end
+  pub within : r.at ≤ length s
+  pub whole : r.more ≡ false → P (take r.end page')
+  pub continued : r.more ≡ true → Continued P s r work' page'
+
+-- as `turn` left it in a line buffer of its own, which was the rest of the page
+pub record Appended (h : Header) (work literals rows page : List ℕ) (at command : ℕ) (step : Step) (work' literals' rows' page' : List ℕ) : Type 0 where
+  pub line' : List ℕ
+  pub end : ℕ
+  pub ends : step.end ≡ at + end
+  pub turns : Turns h work literals rows (drop at page) command (record { header = step.header; end = end; more = step.more }) work' literals' rows' line'
+  pub joined : page' ≡ take at page ++ line'
+
+pub record Spoken (s : List ℕ) (old new : Option (List ℕ)) : Type 0 where
+  pub text : List ℕ
+  pub session : Session s text
+  pub grown : Appends old new text

@@ -1,0 +1,183 @@
+// A session in pages: the lines of one command after another are put into a page, and each page is written as soon as it is full.
+#![tactic(auto)]
+
+ghost use Rattle.std.specs.Prelude.{◌≡◌, ◌+◌, ◌≤◌, ◌<◌, IfOk, IfSome, OnOk, length, take, drop, true};
+ghost use Rattle.io.specs.Counts.{IsPrefixLen};
+ghost use Rattle.gf2.specs.Answers.{Position};
+ghost use Rattle.parity.specs.Promises.{Stands};
+ghost use Rattle.dialogue.specs.Steps.{room};
+ghost use Rattle.play.specs.Session.{most_bytes, Session, Commands};
+ghost use Rattle.play.specs.Pages.{Roomy, Appended, Paged, Spoken};
+
+use dialogue::Step;
+use judge::Header;
+use std::io;
+use std::io::{Read, Write};
+
+// The most bytes that a line has.
+const ROOM: usize = 16384;
+
+// Where the commands go on, the header there, where the text of the page ends, and whether more may follow.
+#[derive(Clone, Copy)]
+pub struct Page {
+    pub at: usize,
+    pub header: Header,
+    pub end: usize,
+    pub more: bool,
+}
+
+// The opening, on the sheet at the start of the input; its line is the first page.
+fn start(
+    s: &[u8],
+    store: &mut [u64],
+    work: &mut [u64],
+    literals: &mut [u64],
+    rows: &mut [u64],
+    page: &mut [u8],
+) -> Page
+    requires { (2304 ≤ length store.old) × Roomy work.old literals.old rows.old page.old }
+    ensures { Paged (Session s.now) s.now result work.new page.old page.new }
+{
+    let at = dialogue::sheet_end(s);
+    let Step { header, end, more } = dialogue::begin(&s[..at], store, work, literals, rows, page);
+    Page {
+        at,
+        header,
+        end,
+        more,
+    }
+}
+
+// A command, whose line stands in the page from place `at` on.
+fn append(
+    h: Header,
+    work: &mut [u64],
+    literals: &mut [u64],
+    rows: &mut [u64],
+    page: &mut [u8],
+    at: usize,
+    command: u16,
+) -> Step
+    requires { at + room ≤ length page.old }
+    ensures { Appended h work.old literals.old rows.old page.old at command result work.new literals.new rows.new page.new }
+{
+    let Step { header, end, more } = dialogue::turn(
+        h,
+        work,
+        literals,
+        rows,
+        &mut page[at..],
+        command,
+    );
+    Step {
+        header,
+        end: at + end,
+        more,
+    }
+}
+
+// The commands from `first` on, until the session is over or the page may have no room for the next line.
+fn play(
+    s: &[u8],
+    first: usize,
+    opened: Header,
+    work: &mut [u64],
+    literals: &mut [u64],
+    rows: &mut [u64],
+    page: &mut [u8],
+) -> Page
+    requires { (first ≤ length s.now) × Roomy work.old literals.old rows.old page.old }
+    ensures onward { result.more ≡ true → first < result.at }
+    ensures paged { (p : Position) → Stands opened work.old p → Paged (Commands p (drop first s.now)) s.now result work.new page.old page.new }
+{
+    let mut header = opened;
+    let mut at = first;
+    let mut end = 0;
+    while s.len() - at >= 2 {
+        let command = dialogue::command(s[at], s[at + 1]);
+        let step = append(header, work, literals, rows, page, end, command);
+        if !step.more {
+            return Page {
+                at,
+                header,
+                end,
+                more: false,
+            };
+        }
+        header = step.header;
+        at += 2;
+        end = step.end;
+        if page.len() - end < ROOM {
+            return Page {
+                at,
+                header,
+                end,
+                more: true,
+            };
+        }
+    }
+    Page {
+        at,
+        header,
+        end,
+        more: false,
+    }
+}
+
+// Writes the session on input `s`, page by page, with buffers large enough for every sheet and every answer.
+fn speak<W: Write>(s: &[u8], out: &mut W) -> io::Result<()>
+    ensures { OnOk result (Spoken s.now (W.contents out.old) (W.contents out.new)) }
+{
+    let mut store = [0u64; 2304];
+    let mut work = [0u64; tableau::SIZE];
+    let mut literals = [0u64; 512];
+    let mut rows = [0u64; 256];
+    let mut page = [0u8; 65536];
+    let mut played = start(
+        s,
+        &mut store,
+        &mut work,
+        &mut literals,
+        &mut rows,
+        &mut page,
+    );
+    out.write_all(&page[..played.end])?;
+    while played.more {
+        played = play(
+            s,
+            played.at,
+            played.header,
+            &mut work,
+            &mut literals,
+            &mut rows,
+            &mut page,
+        );
+        out.write_all(&page[..played.end])?;
+    }
+    Ok(())
+}
+
+// Fills the buffer from its front until it is full or the input ends; how many bytes came.
+fn filled<R: Read>(input: &mut R, buffer: &mut [u8]) -> io::Result<usize>
+    ensures within { IfOk result (λ n. IsPrefixLen n buffer.new) }
+    ensures bytes { IfOk result (λ n. IfSome (R.remaining input.old) (λ bytes. take n buffer.new ≡ take (length buffer.new) bytes)) }
+{
+    let mut done = 0;
+    while done < buffer.len() {
+        let n = input.read(&mut buffer[done..])?;
+        if n == 0 {
+            break;
+        }
+        done += n;
+    }
+    Ok(done)
+}
+
+// The session program: what the session on the first 65,536 bytes of the input says goes to `out`.
+pub fn session<R: Read, W: Write>(input: &mut R, out: &mut W) -> io::Result<()>
+    ensures { OnOk result (IfSome (R.remaining input.old) (λ bytes. Spoken (take most_bytes bytes) (W.contents out.old) (W.contents out.new))) }
+{
+    let mut buffer = [0u8; 65536];
+    let n = filled(input, &mut buffer)?;
+    speak(&buffer[..n], out)
+}
