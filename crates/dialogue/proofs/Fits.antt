@@ -1,6 +1,5 @@
--- THE LISTS OF AN ANSWER LIE WITHIN THEIR BUFFERS, by the promise of the call that gave it, and so does the line of a command.
+-- THE LISTS OF AN ANSWER LIE WITHIN THEIR BUFFERS, by the promise of the call that gave it.
 --   open_fits, assume_fits, explain_fits   the lists of an opening, of an assume, of an explain
---   turns_counts                           the line of a command
 -- Assumes nothing.
 use mathlib.Core.Path.{◌≡◌, refl}
 use mathlib.Core.List.{List}
@@ -8,7 +7,6 @@ use Prim.Native.Nat.{ℕ, zero, suc, ◌≤◌}
 use native.Mathlib.Omega.{arith}
 use lib.ListN.{length}
 use Rattle.std.specs.Prelude.{Result, Ok, Err}
-use Rattle.io.specs.Counts.{IsPrefixLen}
 use Rattle.format.specs.Refusals.{refusal}
 use Rattle.format.specs.Sheet.{n_of, m_of}
 use Rattle.format.specs.declared.Refusal.{Refusal}
@@ -22,8 +20,7 @@ use Rattle.parity.specs.declared.Assuming.TheVariants.{Held, Conflict, Taken}
 use Rattle.parity.specs.declared.Explained.{Explained}
 use Rattle.parity.specs.Promises.{open_checks, OpenLeaves, OpenPromise, AssumeLeaves, AssumePromise, ExplainLeaves, ExplainPromise}
 use Rattle.parity.proofs.Opens.{open_judged}
-use Rattle.dialogue.specs.declared.Step.{Step}
-use Rattle.dialogue.specs.Steps.{OpeningFits, AssumingFits, ExplainingFits, Turns, ends, assumes, backs, explains}
+use Rattle.dialogue.specs.Steps.{OpeningFits, AssumingFits, ExplainingFits}
 
 -- ---- open
 
@@ -79,12 +76,3 @@ explain_fits {h} {work} {clause} {rows} {v} {answer = Ok x} {clause'} {rows'} p 
     go zero e =
         let j = explain_judged h (length work) (length clause) (length rows) v e in
         explain_leaves h x clause rows clause' rows' j.0.vars j.0.rows j.2 j.3 (p.leaves e)
-
--- ---- a command
-
-pub turns_counts : {h : Header} {work literals rows line : List ℕ} {command : ℕ} {step : Step} {work' literals' rows' line' : List ℕ}
-    → Turns h work literals rows line command step work' literals' rows' line' → IsPrefixLen step.end line'
-turns_counts (ends e) = (omega arith, refl)
-turns_counts (assumes e t) = t.says.counts
-turns_counts (backs e t) = t.says.counts
-turns_counts (explains e t) = t.says.counts

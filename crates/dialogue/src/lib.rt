@@ -12,6 +12,9 @@ use format::Refusal;
 use judge::Header;
 use parity::{Assuming, Explained, Opening, Reply};
 
+// So many bytes hold any line.
+pub const ROOM: usize = 16384;
+
 // The commands, by their leading two bits.
 const END: u16 = 0;
 

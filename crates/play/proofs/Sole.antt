@@ -112,39 +112,6 @@ session_same {s} (commanded {kept} {codes} z f cs) (commanded {kept = count} {co
     ap₂ ◌++◌ (ap (λ (a : OpenAnswer). text (opening_line a)) e) (commands_same (opened_reached (n_of (sheet_part s)) (sheet_rows (sheet_part s)) kept codes f) cs ds)
 
 -- ---- at least one
--- TEMPORARY
-taken_dec : (v : ℕ) (ls : List ℕ) → ((l : ℕ) × (l ∈ ls) × (variable l ≡ v)) ⊎ ((l : ℕ) → l ∈ ls → variable l ≢ v)
-taken_dec v [] = inr (λ l m. absurd m)
-taken_dec v (k ∷ ls) = go (same_dec (variable k) v) (taken_dec v ls)
-  where
-    skip_it : variable k ≢ v → ((l : ℕ) → l ∈ ls → variable l ≢ v) → (l : ℕ) → (l ≡ k) ⊎ (l ∈ ls) → variable l ≢ v
-    skip_it ne h l (inl e) = rw e ne
-    skip_it ne h l (inr m) = h l m
-
-    go : (variable k ≡ v) ⊎ (variable k ≢ v) → ((l : ℕ) × (l ∈ ls) × (variable l ≡ v)) ⊎ ((l : ℕ) → l ∈ ls → variable l ≢ v) → ((l : ℕ) × (l ∈ (k ∷ ls)) × (variable l ≡ v)) ⊎ ((l : ℕ) → l ∈ (k ∷ ls) → variable l ≢ v)
-    go (inl e) o = inl (k, inl refl, e)
-    go (inr ne) (inl w) = inl (w.0, inr w.1, w.2)
-    go (inr ne) (inr h) = inr (skip_it ne h)
-
-explain_sure : (p : Position) → Reached p → (v : ℕ) → Var p.n v → Unexplained p v ⊎ ((Unexplained p v → ⊥) × One ExplainAnswer (AnswersExplain p v))
-explain_sure p g v m = go (taken_dec v p.taken) (explain_one p g v m)
-  where
-    valued : (x : ExplainAnswer) → AnswersExplain p v x → ((b : Bool) → Implied p (code v b) → ⊥) → ⊥
-    valued x e neither =
-        neither (value e.literal)
-        (rw (← e.of_v, code_of e.literal)
-        (explains_implied p (reached_fits p g) e.literal (record { low = rw e.of_v m.low; high = rw e.of_v m.high }) e.rows e.cited e.explains))
-
-    both : ((l : ℕ) → l ∈ p.taken → variable l ≢ v) → (x : ExplainAnswer) → AnswersExplain p v x → Unexplained p v → ⊥
-    both h x e (inl n) = valued x e n
-    both h x e (inr w) = h w.0 w.1 w.2
-
-    go : ((l : ℕ) × (l ∈ p.taken) × (variable l ≡ v)) ⊎ ((l : ℕ) → l ∈ p.taken → variable l ≢ v) → Unexplained p v ⊎ One ExplainAnswer (AnswersExplain p v)
-        → Unexplained p v ⊎ ((Unexplained p v → ⊥) × One ExplainAnswer (AnswersExplain p v))
-    go (inl w) o = inl (inr w)
-    go (inr h) (inl u) = inl u
-    go (inr h) (inr x) = inr (both h x.0 x.1, x)
-
 literal_or : (n v : ℕ) → Var n v ⊎ (Var n v → ⊥)
 literal_or n v = go (enough_or 1 v) (enough_or v n)
   where
@@ -178,7 +145,7 @@ explain_answered p g v = go (literal_or p.n v)
     told m (inr w) = (Said.explained v w.1.0.clause w.1.0.numbers, p, explained w.1.0 m w.0 (explanation p g v m w.1.0 w.1.1))
 
     go : Var p.n v ⊎ (Var p.n v → ⊥) → Answer p 3 v
-    go (inl m) = told m (explain_sure p g v m)
+    go (inl m) = told m (explain_one p g v m)
     go (inr n) = (Said.refused 8, p, no_variable n)
 
 command_answered : (p : Position) → Reached p → (k i : ℕ) → 1 ≤ k → k < 4 → Answer p k i

@@ -9,13 +9,10 @@ ghost use Rattle.dialogue.specs.Steps.{room};
 ghost use Rattle.play.specs.Session.{most_bytes, Session, Commands};
 ghost use Rattle.play.specs.Pages.{Roomy, Appended, Paged, Spoken};
 
-use dialogue::Step;
+use dialogue::{ROOM, Step};
 use judge::Header;
 use std::io;
 use std::io::{Read, Write};
-
-// The most bytes that a line has.
-const ROOM: usize = 16384;
 
 // Where the commands go on, the header there, where the text of the page ends, and whether more may follow.
 #[derive(Clone, Copy)]
