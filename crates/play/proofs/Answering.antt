@@ -34,12 +34,12 @@ use Rattle.dialogue.specs.declared.Step.{Step}
 use Rattle.dialogue.specs.Dialogue.{said_assuming, said_backing, said_explaining}
 use Rattle.dialogue.specs.Steps.{Turns, ends, assumes, backs, explains}
 use Rattle.play.specs.Session as session
-use Rattle.play.specs.Session.{assume_line, Answered, kind, operand}
+use Rattle.play.specs.Session.{assume_line, Command, kind, operand}
 
 pub record TurnSaid (p : Position) (command : ℕ) (step : Step) (line work' line' : List ℕ) : Type 0 where
   pub said : Said
   pub next : Position
-  pub answered : Answered p (kind command) (operand command) said next
+  pub answered : Command p (kind command) (operand command) said next
   pub stands : Stands step.header work' next
   pub put : Put line 0 (text said) line' step.end
   pub more : step.more ≡ true
@@ -68,14 +68,14 @@ module _ (h : Header) (work : List ℕ) (p : Position) (st : Stands h work p) (l
 
   pub assume_said : (literals : List ℕ) → 512 ≤ length literals → (code : ℕ) (h' : Header) (answer : Result Assuming Refusal) (work' literals' : List ℕ)
       → AssumePromise h work literals code h' answer work' literals'
-      → (said : Said) × (next : Position) × Answered p 1 code said next × Stands h' work' next × (said_assuming answer literals' ≡ said)
+      → (said : Said) × (next : Position) × Command p 1 code said next × Stands h' work' next × (said_assuming answer literals' ≡ said)
   assume_said literals room code h' answer work' literals' promise = go (refused_or (refusal (assume_checks h (length work) (length literals) code)))
     where
       fits : p.n ≤ length literals
       fits = let e = count.variables in let n = st.fit.vars in omega arith
 
       told : Literal p.n code → (a : Result Assuming Refusal) → AssumeLeaves h code h' a work literals work' literals' → AssumeRight p code h' a work' literals'
-          → (said : Said) × (next : Position) × Answered p 1 code said next × Stands h' work' next × (said_assuming a literals' ≡ said)
+          → (said : Said) × (next : Position) × Command p 1 code said next × Stands h' work' next × (said_assuming a literals' ≡ said)
       told l (Err r) f g = absurd (none_some _ g.says)
       told l (Ok Held) f g =
           (assume_line code g.said, moved p code g.said, session.assumed g.said l g.right, g.stands, ap (assume_line code) (some_one held g.said g.says))
@@ -85,7 +85,7 @@ module _ (h : Header) (work : List ℕ) (p : Position) (st : Stands h work p) (l
           (assume_line code g.said, moved p code g.said, session.assumed g.said l g.right, g.stands, ap (assume_line code) (some_one (implied (take x literals')) g.said g.says))
 
       go : ((c : ℕ) × (refusal (assume_checks h (length work) (length literals) code) ≡ suc c)) ⊎ (refusal (assume_checks h (length work) (length literals) code) ≡ 0)
-          → (said : Said) × (next : Position) × Answered p 1 code said next × Stands h' work' next × (said_assuming answer literals' ≡ said)
+          → (said : Said) × (next : Position) × Command p 1 code said next × Stands h' work' next × (said_assuming answer literals' ≡ said)
       go (inl w) =
           let e = promise.refused w.0 w.1 in
           let r = refused_is answer (suc w.0) e.0 in
@@ -103,7 +103,7 @@ module _ (h : Header) (work : List ℕ) (p : Position) (st : Stands h work p) (l
   back_ninth depth c e = last (ltb h.depth depth) 9 c (rw (is_fit h st.fit, le-ltb (length work) 4096 long) at e)
 
   pub back_said : (depth : ℕ) (h' : Header) (answer : Result (Unit {0}) Refusal) (work' : List ℕ) → BackPromise h work depth (answered answer) h' work'
-      → (said : Said) × (next : Position) × Answered p 2 depth said next × Stands h' work' next × (said_backing answer h'.depth ≡ said)
+      → (said : Said) × (next : Position) × Command p 2 depth said next × Stands h' work' next × (said_backing answer h'.depth ≡ said)
   back_said depth h' (Ok x) work' promise = (
     Said.back depth,
     withdrawn p depth,
@@ -135,7 +135,7 @@ module _ (h : Header) (work : List ℕ) (p : Position) (st : Stands h work p) (l
 
   pub explain_said : (clause rows : List ℕ) → 512 ≤ length clause → 256 ≤ length rows → (v : ℕ) (answer : Result Explained Refusal) (clause' rows' : List ℕ)
       → ExplainPromise h work clause rows v answer clause' rows'
-      → (said : Said) × Answered p 3 v said p × (said_explaining answer v clause' rows' ≡ said)
+      → (said : Said) × Command p 3 v said p × (said_explaining answer v clause' rows' ≡ said)
   explain_said clause rows codes numbers v answer clause' rows' promise = go (refused_or (refusal (explain_checks h (length work) (length clause) (length rows) v)))
     where
       accepted : Var p.n v → refusal (explain_checks h (length work) (length clause) (length rows) v) ≡ 0
@@ -147,7 +147,7 @@ module _ (h : Header) (work : List ℕ) (p : Position) (st : Stands h work p) (l
           (explain_accepted h work p st clause rows v).1 (omega arith, omega arith, x)
 
       told : Var p.n v → (a : Result Explained Refusal) → ExplainLeaves h a clause rows clause' rows' → ExplainRight p v a clause' rows'
-          → (said : Said) × Answered p 3 v said p × (said_explaining a v clause' rows' ≡ said)
+          → (said : Said) × Command p 3 v said p × (said_explaining a v clause' rows' ≡ said)
       told x (Err r) f g = (Said.refused 10, session.unexplained x g, ap Said.refused f.0)
       told x (Ok e) f g = (
         Said.explained v g.1.0.clause g.1.0.numbers,
@@ -156,7 +156,7 @@ module _ (h : Header) (work : List ℕ) (p : Position) (st : Stands h work p) (l
       )
 
       go : ((c : ℕ) × (refusal (explain_checks h (length work) (length clause) (length rows) v) ≡ suc c)) ⊎ (refusal (explain_checks h (length work) (length clause) (length rows) v) ≡ 0)
-          → (said : Said) × Answered p 3 v said p × (said_explaining answer v clause' rows' ≡ said)
+          → (said : Said) × Command p 3 v said p × (said_explaining answer v clause' rows' ≡ said)
       go (inl w) =
           let e = promise.refused w.0 w.1 in
           let r = refused_is answer (suc w.0) e.0 in

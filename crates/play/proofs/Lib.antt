@@ -3,5 +3,5 @@ pub mod Starting
 pub mod Playing
 pub mod Filling
 pub mod Speaking
-pub mod Sole
+pub mod OneText
 pub mod Worked

@@ -23,7 +23,7 @@ use Rattle.dialogue.specs.declared.Step.{Step}
 use Rattle.dialogue.specs.Dialogue.{command_of}
 use Rattle.dialogue.specs.Steps.{Turns, ends, assumes, backs, explains}
 use Rattle.play.specs.Session as session
-use Rattle.play.specs.Session.{Answered, Commands, kind, operand}
+use Rattle.play.specs.Session.{Command, Commands, kind, operand}
 use Rattle.play.specs.Pages.{Continued, Paged, Appended}
 use Rattle.play.proofs.Answering.{TurnSaid, turn_said}
 
@@ -128,7 +128,7 @@ module _ {s : List ℕ} {first : ℕ} {opened : Header} {work₀ page₀ : List 
               after = λ rest cs.
                   rw (text_on l t.put)
                   (subst (Commands p (drop first s)) (sym (append_assoc (take end page) (text t.said) rest))
-                  (c.after (text t.said ++ rest) (rw (two_ahead s at two) (session.then (subst (λ (k : ℕ). Answered c.position (kind k) (operand k) t.said t.next) here t.answered) cs))));
+                  (c.after (text t.said ++ rest) (rw (two_ahead s at two) (session.then (subst (λ (k : ℕ). Command c.position (kind k) (operand k) t.said t.next) here t.answered) cs))));
             }
 
     pub playing_ended : command ≡ command_of (get_or s at 0) (get_or s (at + 1) 0) → at + 2 ≤ length s → end ≤ length page → 4096 ≤ length work → 512 ≤ length literals → 256 ≤ length rows → step.more ≡ false → (p : Position) → Stands opened work₀ p

@@ -15,8 +15,8 @@ use Rattle.std.specs.Prelude.{Option, None, Some}
 use Rattle.std.specs.Io.KnownBytes.{Appends}
 use Rattle.gf2.specs.Answers.{Position}
 use Rattle.parity.specs.Promises.{Stands}
-use Rattle.play.specs.declared.Page.{Page}
-use Rattle.play.specs.Session.{Session, Commands}
+use Rattle.play.specs.declared.Played.{Played}
+use Rattle.play.specs.Session.{SessionOn, Commands}
 use Rattle.play.specs.Pages.{Paged, Spoken}
 
 pub appends_on : (a b c : Option (List ℕ)) (xs ys : List ℕ) → Appends a b xs → Appends b c ys → Appends a c (xs ++ ys)
@@ -26,14 +26,14 @@ appends_on (Some old) (Some now) None xs ys f g = absurd g
 appends_on (Some old) (Some now) (Some new) xs ys f g = g ∙ ap (λ (z : List ℕ). z ++ ys) f ∙ append_assoc old xs ys
 
 -- where more may follow: with what the commands from there say, what was written makes the text of the session
-pub record Speaking (s : List ℕ) (old now : Option (List ℕ)) (r : Page) (work : List ℕ) : Type 0 where
+pub record Speaking (s : List ℕ) (old now : Option (List ℕ)) (r : Played) (work : List ℕ) : Type 0 where
   pub written : List ℕ
   pub grown : Appends old now written
   pub within : r.at ≤ length s
-  pub whole : r.more ≡ false → Session s written
-  pub continued : r.more ≡ true → (p : Position) × Stands r.header work p × ((more : List ℕ) → Commands p (drop r.at s) more → Session s (written ++ more))
+  pub whole : r.more ≡ false → SessionOn s written
+  pub continued : r.more ≡ true → (p : Position) × Stands r.header work p × ((more : List ℕ) → Commands p (drop r.at s) more → SessionOn s (written ++ more))
 
-pub speaking_first : {s : List ℕ} {old now : Option (List ℕ)} {r : Page} {work page page' : List ℕ} → Paged (Session s) s r work page page' → Appends old now (take r.end page') → Speaking s old now r work
+pub speaking_first : {s : List ℕ} {old now : Option (List ℕ)} {r : Played} {work page page' : List ℕ} → Paged (SessionOn s) s r work page page' → Appends old now (take r.end page') → Speaking s old now r work
 speaking_first {r = r} {page' = page'} p grown = record {
   written = take r.end page';
   grown = grown;
@@ -42,7 +42,7 @@ speaking_first {r = r} {page' = page'} p grown = record {
   continued = λ e. let c = p.continued e in (c.position, c.stands, c.after);
 }
 
-pub speaking_on : {s : List ℕ} {old now new : Option (List ℕ)} {r q : Page} {work work' page page' : List ℕ} → Speaking s old now r work → r.more ≡ true
+pub speaking_on : {s : List ℕ} {old now new : Option (List ℕ)} {r q : Played} {work work' page page' : List ℕ} → Speaking s old now r work → r.more ≡ true
     → ((p : Position) → Stands r.header work p → Paged (Commands p (drop r.at s)) s q work' page page') → Appends now new (take q.end page') → Speaking s old new q work'
 speaking_on {s} {old} {now} {new} {r} {q} {work} {work'} {page} {page'} k e paged grown = record {
   written = k.written ++ take q.end page';
@@ -51,13 +51,13 @@ speaking_on {s} {old} {now} {new} {r} {q} {work} {work'} {page} {page'} k e page
   whole = λ f. (k.continued e).2 (take q.end page') (here.whole f);
   continued = λ f.
       let c = here.continued f in
-      (c.position, c.stands, λ more cs. subst (Session s) (sym (append_assoc k.written (take q.end page') more)) ((k.continued e).2 (take q.end page' ++ more) (c.after more cs)));
+      (c.position, c.stands, λ more cs. subst (SessionOn s) (sym (append_assoc k.written (take q.end page') more)) ((k.continued e).2 (take q.end page' ++ more) (c.after more cs)));
 }
   where
     here : Paged (Commands (k.continued e).0 (drop r.at s)) s q work' page page'
     here = paged (k.continued e).0 (k.continued e).1
 
-pub spoken : {s : List ℕ} {old now : Option (List ℕ)} {r : Page} {work : List ℕ} → Speaking s old now r work → r.more ≡ false → Spoken s old now
+pub spoken : {s : List ℕ} {old now : Option (List ℕ)} {r : Played} {work : List ℕ} → Speaking s old now r work → r.more ≡ false → Spoken s old now
 spoken k e = record { text = k.written; session = k.whole e; grown = k.grown }
 
 pub fewer : (most at next : ℕ) (more again : Bool) → more ≡ true → next ≤ most → (again ≡ true → at < next) → cond again (most - next + 1) 0 < cond more (most - at + 1) 0

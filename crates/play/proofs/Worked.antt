@@ -14,7 +14,7 @@ use Rattle.lines.specs.Lines.{word, dec, spaced}
 use Rattle.settled.specs.Table.{sheet, because, system_b_sheet}
 use Rattle.settled.proofs.Right.{settled}
 use Rattle.play.specs.Session.{Says, ended, then, commanded, assumed, gone_back, explained}
-use Rattle.play.proofs.Sole.{session_same}
+use Rattle.play.proofs.OneText.{session_same}
 
 -- `01 80 72 D6 1A 40 02 C0 03 40 06 80 00 40 08 00 00`
 abbrev pub worked_input : List ℕ

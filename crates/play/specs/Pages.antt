@@ -1,7 +1,7 @@
 -- WHAT THE PAGES OF A SESSION HOLD.
 --   Roomy                buffers that are large enough for every sheet and every answer, and a page for every line
---   Continued P s r ..   more may follow page r: the state stands for a position, and with what the commands from there say the text of the page makes a text of P
---   Paged P s r ..       a page of a text of P: the whole of it, or more may follow
+--   Paged P s r ..       a page of a text that has P, r saying how far the session came: the whole of it, or more may follow
+--   Continued P s r ..   more may follow: the state stands for a position, and the text of the page, with what the commands from there on say behind it, has P
 --   Appended             a command whose line was put into a page from place `at` on
 --   Spoken s old new     a writer's known bytes grew by what the session on s says
 -- Assumes nothing.
@@ -13,8 +13,8 @@ use Rattle.lines.specs.Lines.{Put}
 use Rattle.parity.specs.Promises.{Stands}
 use Rattle.dialogue.specs.Steps.{room, Turns}
 use Rattle.dialogue.specs.declared.Step.{Step}
-use Rattle.play.specs.declared.Page.{Page}
-use Rattle.play.specs.Session.{Session, Commands}
+use Rattle.play.specs.declared.Played.{Played}
+use Rattle.play.specs.Session.{SessionOn, Commands}
 
 pub record Roomy (work literals rows page : List ℕ) : Type 0 where
   pub work_long : 4096 ≤ length work
@@ -22,13 +22,13 @@ pub record Roomy (work literals rows page : List ℕ) : Type 0 where
   pub rows_long : 256 ≤ length rows
   pub page_long : room ≤ length page
 
-pub record Continued (P : List ℕ → Type 0) (s : List ℕ) (r : Page) (work' page' : List ℕ) : Type 0 where
+pub record Continued (P : List ℕ → Type 0) (s : List ℕ) (r : Played) (work' page' : List ℕ) : Type 0 where
   pub position : Position
   pub stands : Stands r.header work' position
   pub after : (more : List ℕ) → Commands position (drop r.at s) more → P (take r.end page' ++ more)
 
 -- `put` says that the text of the page is what stands in it before `end`, which lies within it; that it keeps its length, and what stood in it from `end` on
-pub record Paged (P : List ℕ → Type 0) (s : List ℕ) (r : Page) (work' page page' : List ℕ) : Type 0 where
+pub record Paged (P : List ℕ → Type 0) (s : List ℕ) (r : Played) (work' page page' : List ℕ) : Type 0 where
   pub put : Put page 0 (take r.end page') page' r.end
   pub within : r.at ≤ length s
   pub whole : r.more ≡ false → P (take r.end page')
@@ -44,5 +44,5 @@ pub record Appended (h : Header) (work literals rows page : List ℕ) (at comman
 
 pub record Spoken (s : List ℕ) (old new : Option (List ℕ)) : Type 0 where
   pub text : List ℕ
-  pub session : Session s text
+  pub session : SessionOn s text
   pub grown : Appends old new text

@@ -2,12 +2,14 @@
 -- of the definitions alone: no buffer and no header of the module stands in it.
 --   most_bytes                    so many bytes of standard input count, the rest is ignored
 --   sheet_part s, command_part s  the sheet at the start of the input, as long as its own first 19 bits say, and what follows it
---   sheet_refusal s               the number with which the reader refuses the sheet, where there is room for its rows; 0 where it does not
+--   sheet_refusal sheet           the number with which the reader refuses the sheet, given room for its rows; 0 where it does not
 --   opening_line, assume_line     what is said of an answer
---   Answered p k i said q         a command of kind k and number i, at position p: what is said of it, and the position after it
+--   kind, operand                 the leading two bits of a command say which it is, the other fourteen its number
+--   Command p k i said q          a command of kind k and number i, at position p: what is said of it, and the position after it
 --   Commands p bytes text         the commands that stand in the bytes, from position p on: their lines, one after another
---   Session s text                the line of the opening, and those of the commands; a refused or unsatisfiable opening ends the session
---   Says input text               the session on what standard input has
+--   Session sheet commands text   the line of the opening, and those of the commands; a refused or unsatisfiable opening ends the session
+--   SessionOn s text              the session on the bytes s
+--   Says input text               the session on what standard input has: on its first 65,536 bytes
 -- Assumes nothing.
 use Rattle.std.specs.Prelude.{◌≡◌, List, [], ◌∷◌, ◌++◌, length, take, drop, ℕ, suc, ◌*◌, ◌/◌, ◌%◌, ◌<◌, ◌≤◌}
 use Rattle.gf2.specs.Rows.{Var}
@@ -29,7 +31,7 @@ abbrev pub command_part : List ℕ → List ℕ
 command_part s = drop (sheet_end s) s
 
 abbrev pub sheet_refusal : List ℕ → ℕ
-sheet_refusal s = refusal (reader (sheet_part s) (9 * m_of (sheet_part s)))
+sheet_refusal sheet = refusal (reader sheet (9 * m_of sheet))
 
 -- ---- the lines
 
@@ -42,41 +44,43 @@ assume_line l held = Said.held
 assume_line l conflict = Said.conflict (variable l)
 assume_line l (implied codes) = Said.implied codes
 
--- ---- the commands: 1 assume a code, 2 back to a depth, 3 explain a variable
+-- ---- a command: 1 assume a code, 2 back to a depth, 3 explain a variable
 
-pub data Answered (p : Position) : ℕ → ℕ → Said → Position → Type 0 where
-  assumed : {l : ℕ} (answer : AssumeAnswer) → Literal p.n l → AnswersAssume p l answer → Answered p 1 l (assume_line l answer) (moved p l answer)
-  no_literal : {l : ℕ} → (Literal p.n l → ⊥) → Answered p 1 l (Said.refused 8) p
-  gone_back : {d : ℕ} → d ≤ length p.taken → Answered p 2 d (Said.back d) (withdrawn p d)
-  too_deep : {d : ℕ} → length p.taken < d → Answered p 2 d (Said.refused 9) p
+pub data Command (p : Position) : ℕ → ℕ → Said → Position → Type 0 where
+  assumed : {l : ℕ} (answer : AssumeAnswer) → Literal p.n l → AnswersAssume p l answer → Command p 1 l (assume_line l answer) (moved p l answer)
+  no_literal : {l : ℕ} → (Literal p.n l → ⊥) → Command p 1 l (Said.refused 8) p
+  gone_back : {d : ℕ} → d ≤ length p.taken → Command p 2 d (Said.back d) (withdrawn p d)
+  too_deep : {d : ℕ} → length p.taken < d → Command p 2 d (Said.refused 9) p
   explained : {v : ℕ} (answer : ExplainAnswer) → Var p.n v → (Unexplained p v → ⊥) → Explanation p v answer
-      → Answered p 3 v (Said.explained v answer.clause answer.numbers) p
-  unexplained : {v : ℕ} → Var p.n v → Unexplained p v → Answered p 3 v (Said.refused 10) p
-  no_variable : {v : ℕ} → (Var p.n v → ⊥) → Answered p 3 v (Said.refused 8) p
+      → Command p 3 v (Said.explained v answer.clause answer.numbers) p
+  unexplained : {v : ℕ} → Var p.n v → Unexplained p v → Command p 3 v (Said.refused 10) p
+  no_variable : {v : ℕ} → (Var p.n v → ⊥) → Command p 3 v (Said.refused 8) p
 
--- two bytes a command: the leading two bits are its kind, the other fourteen its number
 abbrev pub kind : ℕ → ℕ
 kind command = command / 16384
 
 abbrev pub operand : ℕ → ℕ
 operand command = command % 16384
 
--- it ends where fewer than two bytes are left, or at command 0
+-- ---- the commands, of two bytes each, to command 0 or to where fewer than two bytes are left
 pub data Commands : Position → List ℕ → List ℕ → Type 0 where
   over : {p : Position} {bytes : List ℕ} → length bytes < 2 → Commands p bytes []
   ended : {p : Position} {high low : ℕ} {bytes : List ℕ} → kind (command_of high low) ≡ 0 → Commands p (high ∷ low ∷ bytes) []
-  then : {p q : Position} {high low : ℕ} {bytes more : List ℕ} {said : Said} → Answered p (kind (command_of high low)) (operand (command_of high low)) said q
+  then : {p q : Position} {high low : ℕ} {bytes more : List ℕ} {said : Said} → Command p (kind (command_of high low)) (operand (command_of high low)) said q
       → Commands q bytes more → Commands p (high ∷ low ∷ bytes) (text said ++ more)
 
 -- ---- the session
 
-pub data Session (s : List ℕ) : List ℕ → Type 0 where
-  refused : {c : ℕ} → sheet_refusal s ≡ suc c → Session s (text (Said.refused (suc c)))
-  contradicted : {rows : List ℕ} → sheet_refusal s ≡ 0 → AnswersOpen (n_of (sheet_part s)) (sheet_rows (sheet_part s)) (unsatisfiable rows)
-      → Session s (text (opening_line (unsatisfiable rows)))
-  commanded : {kept : ℕ} {codes more : List ℕ} → sheet_refusal s ≡ 0 → AnswersOpen (n_of (sheet_part s)) (sheet_rows (sheet_part s)) (opened kept codes)
-      → Commands (start (n_of (sheet_part s)) (sheet_rows (sheet_part s))) (command_part s) more
-      → Session s (text (opening_line (opened kept codes)) ++ more)
+pub data Session (sheet commands : List ℕ) : List ℕ → Type 0 where
+  refused : {c : ℕ} → sheet_refusal sheet ≡ suc c → Session sheet commands (text (Said.refused (suc c)))
+  contradicted : {rows : List ℕ} → sheet_refusal sheet ≡ 0 → AnswersOpen (n_of sheet) (sheet_rows sheet) (unsatisfiable rows)
+      → Session sheet commands (text (opening_line (unsatisfiable rows)))
+  commanded : {kept : ℕ} {codes more : List ℕ} → sheet_refusal sheet ≡ 0 → AnswersOpen (n_of sheet) (sheet_rows sheet) (opened kept codes)
+      → Commands (start (n_of sheet) (sheet_rows sheet)) commands more
+      → Session sheet commands (text (opening_line (opened kept codes)) ++ more)
+
+abbrev pub SessionOn : List ℕ → List ℕ → Type 0
+SessionOn s text = Session (sheet_part s) (command_part s) text
 
 abbrev pub Says : List ℕ → List ℕ → Type 0
-Says input text = Session (take most_bytes input) text
+Says input text = SessionOn (take most_bytes input) text

@@ -6,7 +6,7 @@ ghost use Rattle.io.specs.Counts.{IsPrefixLen};
 ghost use Rattle.gf2.specs.Answers.{Position};
 ghost use Rattle.parity.specs.Promises.{Stands};
 ghost use Rattle.dialogue.specs.Steps.{room};
-ghost use Rattle.play.specs.Session.{most_bytes, Session, Commands};
+ghost use Rattle.play.specs.Session.{most_bytes, SessionOn, Commands};
 ghost use Rattle.play.specs.Pages.{Roomy, Appended, Paged, Spoken};
 
 use dialogue::{ROOM, Step};
@@ -14,13 +14,13 @@ use judge::Header;
 use std::io;
 use std::io::{Read, Write};
 
-// Where the commands go on, the header there, where the text of the page ends, and whether more may follow.
+// How far a session has come: where its commands go on, the header there, where the text of the page ends, and whether more may follow.
 #[derive(Clone, Copy)]
-pub struct Page {
-    pub at: usize,
-    pub header: Header,
-    pub end: usize,
-    pub more: bool,
+struct Played {
+    at: usize,
+    header: Header,
+    end: usize,
+    more: bool,
 }
 
 // The opening, on the sheet at the start of the input; its line is the first page.
@@ -31,13 +31,13 @@ fn start(
     literals: &mut [u64],
     rows: &mut [u64],
     page: &mut [u8],
-) -> Page
+) -> Played
     requires { (2304 ≤ length store.old) × Roomy work.old literals.old rows.old page.old }
-    ensures { Paged (Session s.now) s.now result work.new page.old page.new }
+    ensures { Paged (SessionOn s.now) s.now result work.new page.old page.new }
 {
     let at = dialogue::sheet_end(s);
     let Step { header, end, more } = dialogue::begin(&s[..at], store, work, literals, rows, page);
-    Page {
+    Played {
         at,
         header,
         end,
@@ -82,7 +82,7 @@ fn play(
     literals: &mut [u64],
     rows: &mut [u64],
     page: &mut [u8],
-) -> Page
+) -> Played
     requires { (first ≤ length s.now) × Roomy work.old literals.old rows.old page.old }
     ensures onward { result.more ≡ true → first < result.at }
     ensures paged { (p : Position) → Stands opened work.old p → Paged (Commands p (drop first s.now)) s.now result work.new page.old page.new }
@@ -94,7 +94,7 @@ fn play(
         let command = dialogue::command(s[at], s[at + 1]);
         let step = append(header, work, literals, rows, page, end, command);
         if !step.more {
-            return Page {
+            return Played {
                 at,
                 header,
                 end,
@@ -105,7 +105,7 @@ fn play(
         at += 2;
         end = step.end;
         if page.len() - end < ROOM {
-            return Page {
+            return Played {
                 at,
                 header,
                 end,
@@ -113,7 +113,7 @@ fn play(
             };
         }
     }
-    Page {
+    Played {
         at,
         header,
         end,
@@ -121,7 +121,8 @@ fn play(
     }
 }
 
-// Writes the session on input `s`, page by page, with buffers large enough for every sheet and every answer.
+// Writes the session on input `s`, page by page. The buffers are large enough for every sheet and every answer: no call is refused
+// with 6 or 7, for `Session` has no such line.
 fn speak<W: Write>(s: &[u8], out: &mut W) -> io::Result<()>
     ensures { OnOk result (Spoken s.now (W.contents out.old) (W.contents out.new)) }
 {
@@ -170,7 +171,7 @@ fn filled<R: Read>(input: &mut R, buffer: &mut [u8]) -> io::Result<usize>
     Ok(done)
 }
 
-// The session program: what the session on the first 65,536 bytes of the input says goes to `out`.
+// The session program: what the session on the first 65,536 bytes of the input says goes to `out`. An error of either is handed on.
 pub fn session<R: Read, W: Write>(input: &mut R, out: &mut W) -> io::Result<()>
     ensures { OnOk result (IfSome (R.remaining input.old) (λ bytes. Spoken (take most_bytes bytes) (W.contents out.old) (W.contents out.new))) }
 {

@@ -1,6 +1,8 @@
 -- WHAT A SESSION SAYS IS ONE TEXT: there is one for every input, and no other.
---   answered_same, commands_same, session_same   what is said of a command, of the commands in some bytes, of an input, is one text
---   answered_one, commands_one, session_one      and there is one
+--   command_same, commands_same, session_same   what is said of a command, of the commands in some bytes, of an input, is one text
+--   command_one, commands_one, session_one      and there is one
+--   one_text         THE STATEMENT: of every input of bytes
+--   spoken_same      two writers that held the same bytes, and grew by the session on one input, hold the same bytes
 --   next_reached     the position after a command is one that calls lead to
 -- Assumes nothing.
 use mathlib.Core.Path.{◌≡◌, refl, sym, ap, ap₂, ◌∙◌, subst}
@@ -9,48 +11,49 @@ use mathlib.Core.Bool.{Bool, true, false, true≢false}
 use mathlib.Core.List.{List, [], ◌∷◌, ◌++◌}
 use Prim.Native.Nat.{ℕ, zero, suc, ◌/◌, ◌<◌, ◌≤◌}
 use native.Mathlib.Omega.{arith}
-use lib.ListN.{length, drop}
-use Rattle.gf2.specs.Lists.{◌∈◌, All}
+use lib.ListN.{length, take, drop}
+use Rattle.std.specs.Prelude.{Option, None, Some}
+use Rattle.gf2.specs.Lists.{All}
 use Rattle.gf2.specs.Rows.{Var}
-use Rattle.gf2.specs.Answers.{code, variable, value, Implied, Position, start, Literal, moved, withdrawn, held, conflict, implied, ExplainAnswer, AnswersExplain, OpenAnswer, opened, unsatisfiable, AnswersOpen, Unexplained, Reached}
-use Rattle.gf2.proofs.Literals.{code_of}
+use Rattle.gf2.specs.Answers.{Position, start, Literal, moved, withdrawn, held, conflict, implied, ExplainAnswer, AnswersExplain, OpenAnswer, opened, unsatisfiable, AnswersOpen, Unexplained, Reached}
 use Rattle.gf2.proofs.Sums.{same_dec}
-use Rattle.gf2.proofs.Sure.{One, open_one, assume_one, explain_one, explains_implied}
+use Rattle.gf2.proofs.Sure.{One, open_one, assume_one, explain_one}
 use Rattle.gf2.proofs.Unique.{open_unique, assume_unique}
 use Rattle.gf2.proofs.Explained.{explain_unique, explanation}
-use Rattle.gf2.proofs.Reach.{reached_fits, reached_solution, opened_reached, assumed_reached, withdrawn_reached}
+use Rattle.gf2.proofs.Reach.{reached_solution, opened_reached, assumed_reached, withdrawn_reached}
 use Rattle.format.specs.Sheet.{n_of, sheet_rows}
 use Rattle.lines.specs.Lines.{Said, text}
 use Rattle.history.proofs.Demand.{refused_or}
 use Rattle.dialogue.specs.Dialogue.{sheet_end, command_of}
-use Rattle.play.specs.Session.{sheet_part, command_part, sheet_refusal, opening_line, assume_line, Answered, assumed, no_literal, gone_back, too_deep, explained, unexplained, no_variable, kind, operand, Commands, over, ended, then, Session, refused, contradicted, commanded}
+use Rattle.play.specs.Session.{most_bytes, sheet_part, command_part, sheet_refusal, opening_line, assume_line, Command, assumed, no_literal, gone_back, too_deep, explained, unexplained, no_variable, kind, operand, Commands, over, ended, then, Session, Says, refused, contradicted, commanded}
+use Rattle.play.specs.Pages.{Spoken}
 use Rattle.play.proofs.Answering.{enough_or}
 
 -- ---- at most one
-answered_same : (p : Position) → Reached p → {k i : ℕ} {a b : Said} {q r : Position} → Answered p k i a q → Answered p k i b r → (a ≡ b) × (q ≡ r)
-answered_same p g (assumed {l} x m f) (assumed y n h) =
+command_same : (p : Position) → Reached p → {k i : ℕ} {a b : Said} {q r : Position} → Command p k i a q → Command p k i b r → (a ≡ b) × (q ≡ r)
+command_same p g (assumed {l} x m f) (assumed y n h) =
     let e = assume_unique p (reached_solution p g) l x y f h in
     (ap (assume_line l) e, ap (moved p l) e)
-answered_same p g (assumed x m f) (no_literal n) = absurd (n m)
-answered_same p g (no_literal n) (assumed x m f) = absurd (n m)
-answered_same p g (no_literal n) (no_literal m) = (refl, refl)
-answered_same p g (gone_back m) (gone_back n) = (refl, refl)
-answered_same p g (gone_back m) (too_deep n) = absurd (omega arith)
-answered_same p g (too_deep m) (gone_back n) = absurd (omega arith)
-answered_same p g (too_deep m) (too_deep n) = (refl, refl)
-answered_same p g (explained {v} x m u f) (explained y n w h) =
+command_same p g (assumed x m f) (no_literal n) = absurd (n m)
+command_same p g (no_literal n) (assumed x m f) = absurd (n m)
+command_same p g (no_literal n) (no_literal m) = (refl, refl)
+command_same p g (gone_back m) (gone_back n) = (refl, refl)
+command_same p g (gone_back m) (too_deep n) = absurd (omega arith)
+command_same p g (too_deep m) (gone_back n) = absurd (omega arith)
+command_same p g (too_deep m) (too_deep n) = (refl, refl)
+command_same p g (explained {v} x m u f) (explained y n w h) =
     let e = explain_unique p g v x y f.answers h.answers in
     (ap (λ (z : ExplainAnswer). Said.explained v z.clause z.numbers) e, refl)
-answered_same p g (explained x m u f) (unexplained n w) = absurd (u w)
-answered_same p g (explained x m u f) (no_variable n) = absurd (n m)
-answered_same p g (unexplained n w) (explained x m u f) = absurd (u w)
-answered_same p g (unexplained m u) (unexplained n w) = (refl, refl)
-answered_same p g (unexplained m u) (no_variable n) = absurd (n m)
-answered_same p g (no_variable n) (explained x m u f) = absurd (n m)
-answered_same p g (no_variable n) (unexplained m u) = absurd (n m)
-answered_same p g (no_variable m) (no_variable n) = (refl, refl)
+command_same p g (explained x m u f) (unexplained n w) = absurd (u w)
+command_same p g (explained x m u f) (no_variable n) = absurd (n m)
+command_same p g (unexplained n w) (explained x m u f) = absurd (u w)
+command_same p g (unexplained m u) (unexplained n w) = (refl, refl)
+command_same p g (unexplained m u) (no_variable n) = absurd (n m)
+command_same p g (no_variable n) (explained x m u f) = absurd (n m)
+command_same p g (no_variable n) (unexplained m u) = absurd (n m)
+command_same p g (no_variable m) (no_variable n) = (refl, refl)
 
-next_reached : (p : Position) → Reached p → {k i : ℕ} {said : Said} {q : Position} → Answered p k i said q → Reached q
+next_reached : (p : Position) → Reached p → {k i : ℕ} {said : Said} {q : Position} → Command p k i said q → Reached q
 next_reached p g (assumed {l} held m f) = g
 next_reached p g (assumed {l} conflict m f) = g
 next_reached p g (assumed {l} (implied list) m f) = assumed_reached p g l m list f
@@ -62,7 +65,7 @@ next_reached p g (unexplained m u) = g
 next_reached p g (no_variable n) = g
 
 -- no command of kind 0 is answered
-kind_pos : {p q : Position} {k i : ℕ} {said : Said} → Answered p k i said q → 1 ≤ k
+kind_pos : {p q : Position} {k i : ℕ} {said : Said} → Command p k i said q → 1 ≤ k
 kind_pos (assumed x m f) = omega arith
 kind_pos (no_literal n) = omega arith
 kind_pos (gone_back m) = omega arith
@@ -81,7 +84,7 @@ commands_same g (ended e) (then a cs) = let k = kind_pos a in absurd (omega arit
 commands_same g (then a cs) (over l) = absurd (omega arith)
 commands_same g (then a cs) (ended e) = let k = kind_pos a in absurd (omega arith)
 commands_same {p} g (then {bytes = bytes} {more = t} a cs) (then {more = u} b ds) =
-    let e = answered_same p g a b in
+    let e = command_same p g a b in
     ap₂ ◌++◌ (ap text e.0) (commands_same (next_reached p g a) cs (subst (λ (q : Position). Commands q bytes u) (sym e.1) ds))
 
 not_both : (rows codes : List ℕ) (kept : ℕ) → unsatisfiable rows ≡ opened kept codes → ⊥
@@ -94,22 +97,22 @@ not_both rows codes kept e = true≢false (ap fails e)
 checked_same : {a b : ℕ} → a ≡ suc b → a ≡ 0 → ⊥
 checked_same e f = let g = sym e ∙ f in omega arith
 
-pub session_same : {s t u : List ℕ} → Session s t → Session s u → t ≡ u
+pub session_same : {sheet commands t u : List ℕ} → Session sheet commands t → Session sheet commands u → t ≡ u
 session_same (refused e) (refused f) = let g = sym e ∙ f in ap (λ (k : ℕ). text (Said.refused k)) g
 session_same (refused e) (contradicted z f) = absurd (checked_same e z)
 session_same (refused e) (commanded z f cs) = absurd (checked_same e z)
 session_same (contradicted z f) (refused e) = absurd (checked_same e z)
-session_same {s} (contradicted {rows} z f) (contradicted {rows = list} y g) =
-    let e : unsatisfiable rows ≡ unsatisfiable list = open_unique (n_of (sheet_part s)) (sheet_rows (sheet_part s)) (unsatisfiable rows) (unsatisfiable list) f g in
+session_same {sheet} (contradicted {rows} z f) (contradicted {rows = list} y g) =
+    let e : unsatisfiable rows ≡ unsatisfiable list = open_unique (n_of sheet) (sheet_rows sheet) (unsatisfiable rows) (unsatisfiable list) f g in
     ap (λ (a : OpenAnswer). text (opening_line a)) e
-session_same {s} (contradicted {rows} z f) (commanded {kept} {codes} y g cs) =
-    absurd (not_both rows codes kept (open_unique (n_of (sheet_part s)) (sheet_rows (sheet_part s)) (unsatisfiable rows) (opened kept codes) f g))
+session_same {sheet} (contradicted {rows} z f) (commanded {kept} {codes} y g cs) =
+    absurd (not_both rows codes kept (open_unique (n_of sheet) (sheet_rows sheet) (unsatisfiable rows) (opened kept codes) f g))
 session_same (commanded z f cs) (refused e) = absurd (checked_same e z)
-session_same {s} (commanded {kept} {codes} y g cs) (contradicted {rows} z f) =
-    absurd (not_both rows codes kept (open_unique (n_of (sheet_part s)) (sheet_rows (sheet_part s)) (unsatisfiable rows) (opened kept codes) f g))
-session_same {s} (commanded {kept} {codes} z f cs) (commanded {kept = count} {codes = list} y g ds) =
-    let e : opened kept codes ≡ opened count list = open_unique (n_of (sheet_part s)) (sheet_rows (sheet_part s)) (opened kept codes) (opened count list) f g in
-    ap₂ ◌++◌ (ap (λ (a : OpenAnswer). text (opening_line a)) e) (commands_same (opened_reached (n_of (sheet_part s)) (sheet_rows (sheet_part s)) kept codes f) cs ds)
+session_same {sheet} (commanded {kept} {codes} y g cs) (contradicted {rows} z f) =
+    absurd (not_both rows codes kept (open_unique (n_of sheet) (sheet_rows sheet) (unsatisfiable rows) (opened kept codes) f g))
+session_same {sheet} (commanded {kept} {codes} z f cs) (commanded {kept = count} {codes = list} y g ds) =
+    let e : opened kept codes ≡ opened count list = open_unique (n_of sheet) (sheet_rows sheet) (opened kept codes) (opened count list) f g in
+    ap₂ ◌++◌ (ap (λ (a : OpenAnswer). text (opening_line a)) e) (commands_same (opened_reached (n_of sheet) (sheet_rows sheet) kept codes f) cs ds)
 
 -- ---- at least one
 literal_or : (n v : ℕ) → Var n v ⊎ (Var n v → ⊥)
@@ -121,7 +124,7 @@ literal_or n v = go (enough_or 1 v) (enough_or v n)
     go (inl a) (inr b) = inr (λ x. let h = x.high in omega arith)
 
 abbrev Answer : Position → ℕ → ℕ → Type 0
-Answer p k i = (said : Said) × (q : Position) × Answered p k i said q
+Answer p k i = (said : Said) × (q : Position) × Command p k i said q
 
 assume_answered : (p : Position) → Reached p → (l : ℕ) → Answer p 1 l
 assume_answered p g l = go (literal_or p.n (l / 2))
@@ -148,8 +151,8 @@ explain_answered p g v = go (literal_or p.n v)
     go (inl m) = told m (explain_one p g v m)
     go (inr n) = (Said.refused 8, p, no_variable n)
 
-command_answered : (p : Position) → Reached p → (k i : ℕ) → 1 ≤ k → k < 4 → Answer p k i
-command_answered p g k i low high = go (same_dec k 1) (same_dec k 2)
+command_one : (p : Position) → Reached p → (k i : ℕ) → 1 ≤ k → k < 4 → Answer p k i
+command_one p g k i low high = go (same_dec k 1) (same_dec k 2)
   where
     go : (k ≡ 1) ⊎ (k ≢ 1) → (k ≡ 2) ⊎ (k ≢ 2) → Answer p k i
     go (inl e) f = rw e (assume_answered p g i)
@@ -170,28 +173,43 @@ commands_one p g (high ∷ low ∷ bytes) b = go (λ q r. commands_one q r bytes
     go more (inr n) =
         let h = b.0 in
         let l = b.1.0 in
-        let a = command_answered p g (kind (command_of high low)) (operand (command_of high low)) (omega (arith, n)) (omega arith) in
+        let a = command_one p g (kind (command_of high low)) (operand (command_of high low)) (omega (arith, n)) (omega arith) in
         let cs = more a.1 (next_reached p g a.2) in
         (text a.0 ++ cs.0, then a.2 cs.1)
+
+pub session_one : (sheet commands : List ℕ) → Bytes commands → One (List ℕ) (Session sheet commands)
+session_one sheet commands b = (there.0, there.1, λ y h. session_same h there.1)
+  where
+    opens : sheet_refusal sheet ≡ 0 → (a : OpenAnswer) → AnswersOpen (n_of sheet) (sheet_rows sheet) a → (t : List ℕ) × Session sheet commands t
+    opens z (unsatisfiable rows) f = (text (opening_line (unsatisfiable rows)), contradicted z f)
+    opens z (opened kept codes) f =
+        let cs = commands_one (start (n_of sheet) (sheet_rows sheet)) (opened_reached (n_of sheet) (sheet_rows sheet) kept codes f) commands b in
+        (text (opening_line (opened kept codes)) ++ cs.0, commanded z f cs.1)
+
+    there : (t : List ℕ) × Session sheet commands t
+    there = go (refused_or (sheet_refusal sheet))
+      where
+        go : ((c : ℕ) × (sheet_refusal sheet ≡ suc c)) ⊎ (sheet_refusal sheet ≡ 0) → (t : List ℕ) × Session sheet commands t
+        go (inl w) = (text (Said.refused (suc w.0)), refused w.1)
+        go (inr z) = let a = open_one (n_of sheet) (sheet_rows sheet) in opens z a.0 a.1
+
+all_take : (k : ℕ) (s : List ℕ) → Bytes s → Bytes (take k s)
+all_take zero s b = tt
+all_take (suc k) [] b = b
+all_take (suc k) (x ∷ s) b = (b.0, all_take k s b.1)
 
 all_drop : (k : ℕ) (s : List ℕ) → Bytes s → Bytes (drop k s)
 all_drop zero s b = b
 all_drop (suc k) [] b = b
 all_drop (suc k) (x ∷ s) b = all_drop k s b.1
 
-pub session_one : (s : List ℕ) → Bytes s → One (List ℕ) (Session s)
-session_one s b = (there.0, there.1, λ y h. session_same h there.1)
-  where
-    opens : sheet_refusal s ≡ 0 → (a : OpenAnswer) → AnswersOpen (n_of (sheet_part s)) (sheet_rows (sheet_part s)) a → (t : List ℕ) × Session s t
-    opens z (unsatisfiable rows) f = (text (opening_line (unsatisfiable rows)), contradicted z f)
-    opens z (opened kept codes) f =
-        let cs = commands_one (start (n_of (sheet_part s)) (sheet_rows (sheet_part s))) (opened_reached (n_of (sheet_part s)) (sheet_rows (sheet_part s)) kept codes f)
-        (command_part s) (all_drop (sheet_end s) s b) in
-        (text (opening_line (opened kept codes)) ++ cs.0, commanded z f cs.1)
+pub one_text : (input : List ℕ) → Bytes input → One (List ℕ) (Says input)
+one_text input b =
+    let s : List ℕ = take most_bytes input in
+    session_one (sheet_part s) (command_part s) (all_drop (sheet_end s) s (all_take most_bytes input b))
 
-    there : (t : List ℕ) × Session s t
-    there = go (refused_or (sheet_refusal s))
-      where
-        go : ((c : ℕ) × (sheet_refusal s ≡ suc c)) ⊎ (sheet_refusal s ≡ 0) → (t : List ℕ) × Session s t
-        go (inl w) = (text (Said.refused (suc w.0)), refused w.1)
-        go (inr z) = let a = open_one (n_of (sheet_part s)) (sheet_rows (sheet_part s)) in opens z a.0 a.1
+-- so what a writer holds at the end is determined, where it was known at the start
+pub spoken_same : {s xs : List ℕ} {new new' : Option (List ℕ)} → Spoken s (Some xs) new → Spoken s (Some xs) new' → new ≡ new'
+spoken_same {xs = xs} {new = None} p q = absurd p.grown
+spoken_same {xs = xs} {new = Some ys} {new' = None} p q = absurd q.grown
+spoken_same {xs = xs} {new = Some ys} {new' = Some zs} p q = ap Some (p.grown ∙ ap (λ (t : List ℕ). xs ++ t) (session_same p.session q.session) ∙ sym q.grown)
