@@ -19,6 +19,7 @@ use Rattle.judge.proofs.Judged.{back_judged, assume_judged, explain_judged, back
 use Rattle.tableau.specs.Layout.{size}
 use Rattle.parity.specs.Promises.{Stands}
 use Rattle.history.specs.Calls.{Counted}
+use Rattle.history.proofs.Memory.{long}
 use Rattle.history.proofs.Demand.{counted}
 use Rattle.history.proofs.Determined.{AssumeRefusal, ExplainRefusal}
 
@@ -26,24 +27,21 @@ module _ (h : Header) (work : List ℕ) (p : Position) (st : Stands h work p) wh
   count : Counted h p
   count = counted h work p st
 
-  long : 4096 ≤ length work
-  long = let l = st.made.room in let e = length-take size work in omega arith
-
   pub assume_accepted : (literals : List ℕ) (code : ℕ) → (AssumeRefusal h work literals code ≡ 0) ↔ ((p.n ≤ length literals) × Literal p.n code)
   assume_accepted literals code =
       subst (λ (n : ℕ). (AssumeRefusal h work literals code ≡ 0) ↔ ((n ≤ length literals) × Literal n code)) count.variables (
         λ z. let j = assume_judged h (length work) (length literals) code z in (j.2, of_range h.n code j.3 (let l = j.4 in omega arith)),
-        λ w. let r = range_of h.n code w.1 in assume_passes h (length work) (length literals) code st.fit long w.0 r.0 (let l = r.1 in omega arith),
+        λ w. let r = range_of h.n code w.1 in assume_passes h (length work) (length literals) code st.fit (long st) w.0 r.0 (let l = r.1 in omega arith),
       )
 
   pub back_accepted : (d : ℕ) → (refusal (back_checks h (length work) d) ≡ 0) ↔ (d ≤ length p.taken)
   back_accepted d =
-      subst (λ (k : ℕ). (refusal (back_checks h (length work) d) ≡ 0) ↔ (d ≤ k)) count.depth (λ z. (back_judged h (length work) d z).2, λ l. back_passes h (length work) d st.fit long l)
+      subst (λ (k : ℕ). (refusal (back_checks h (length work) d) ≡ 0) ↔ (d ≤ k)) count.depth (λ z. (back_judged h (length work) d z).2, λ l. back_passes h (length work) d st.fit (long st) l)
 
   pub explain_accepted : (clause rows : List ℕ) (v : ℕ) → (ExplainRefusal h work clause rows v ≡ 0) ↔ ((p.n ≤ length clause) × (length p.rows ≤ length rows) × Var p.n v)
   explain_accepted clause rows v =
       subst (λ (n : ℕ). (ExplainRefusal h work clause rows v ≡ 0) ↔ ((n ≤ length clause) × (length p.rows ≤ length rows) × Var n v)) count.variables
       (subst (λ (m : ℕ). (ExplainRefusal h work clause rows v ≡ 0) ↔ ((h.n ≤ length clause) × (m ≤ length rows) × Var h.n v)) count.rows (
         λ z. let j = explain_judged h (length work) (length clause) (length rows) v z in (j.2, j.3, j.4),
-        λ w. explain_passes h (length work) (length clause) (length rows) v st.fit long w.0 w.1 w.2,
+        λ w. explain_passes h (length work) (length clause) (length rows) v st.fit (long st) w.0 w.1 w.2,
       ))

@@ -66,18 +66,10 @@ refused_same a b k e f =
     r.1 ∙ ap Err (number_same r.0 q.0 (r.2 ∙ sym q.2)) ∙ sym q.1
 
 pub some_one : {A : Type 0} (x y : A) → some x ≡ some y → x ≡ y
-some_one {A = A} x y e = ap (inside x) e
-  where
-    inside : A → Option A → A
-    inside d none = d
-    inside d (some z) = z
+some_one x y e = cc
 
 pub none_some : {A : Type 0} (x : A) → none ≡ some x → ⊥
-none_some {A = A} x e = true≢false (sym (ap empty e))
-  where
-    empty : Option A → Bool
-    empty none = false
-    empty (some z) = true
+none_some x e = cc
 
 literal_of : (h : Header) (words room code : ℕ) → refusal (assume_checks h words room code) ≡ 0 → Literal h.n code
 literal_of h words room code e = let j = assume_judged h words room code e in of_range h.n code j.3 (let hi = j.4 in omega arith)

@@ -66,21 +66,6 @@ pub record OpenSame (h k : Header) (x y : Result Opening Refusal) (store store' 
   pub listed : literals ≡ literals'
   pub numbers : rows ≡ rows'
 
-not_both : (kept : ℕ) (xs ys : List ℕ) → unsatisfiable xs ≡ opened kept ys → ⊥
-not_both kept xs ys e = true≢false (ap fails e)
-  where
-    fails : OpenAnswer → Bool
-    fails (unsatisfiable zs) = true
-    fails (opened k zs) = false
-
-numbers_of : OpenAnswer → List ℕ
-numbers_of (unsatisfiable zs) = zs
-numbers_of (opened k zs) = zs
-
-count_of : OpenAnswer → ℕ
-count_of (unsatisfiable zs) = 0
-count_of (opened k zs) = k
-
 abbrev pub OpenRefusal : Header → List ℕ → List ℕ → List ℕ → List ℕ → List ℕ → ℕ
 OpenRefusal old s store work literals rows = refusal (open_checks s (length store) (length work) (length literals) (length rows))
 
@@ -104,7 +89,6 @@ module _ (old : Header) (s store work work' literals rows : List ℕ)
   pub open_both : (h k : Header) (x y : Result Opening Refusal) (store₁ store₂ work₁ work₂ literals₁ literals₂ rows₁ rows₂ : List ℕ)
       → OpenPromise old s store work literals rows h x store₁ work₁ literals₁ rows₁ → OpenPromise old s store work' literals rows k y store₂ work₂ literals₂ rows₂
       → (h ≡ k) × (x ≡ y) × (store₁ ≡ store₂) × (literals₁ ≡ literals₂) × (rows₁ ≡ rows₂)
-  unfolding numbers_of count_of
   open_both h k x y store₁ store₂ work₁ work₂ literals₁ literals₂ rows₁ rows₂ p q = go (refused_or (OpenRefusal old s store work literals rows))
     where
       both : (z : OpenRefusal old s store work literals rows ≡ 0) (x y : Result Opening Refusal)
@@ -114,22 +98,22 @@ module _ (old : Header) (s store work work' literals rows : List ℕ)
       both z (Err r) y d e f = absurd d.leaves
       both z (Ok (Unsatisfiable a)) (Err r) d e f = absurd e.leaves
       both z (Ok (Opened a)) (Err r) d e f = absurd e.leaves
-      both z (Ok (Unsatisfiable a)) (Ok (Opened b)) d e f = absurd (not_both _ _ _ (some_one _ d.said d.says ∙ f ∙ sym (some_one _ e.said e.says)))
-      both z (Ok (Opened a)) (Ok (Unsatisfiable b)) d e f = absurd (not_both _ _ _ (some_one _ e.said e.says ∙ sym f ∙ sym (some_one _ d.said d.says)))
+      both z (Ok (Unsatisfiable a)) (Ok (Opened b)) d e f = let g = d.says in let i = e.says in cc
+      both z (Ok (Opened a)) (Ok (Unsatisfiable b)) d e f = let g = d.says in let i = e.says in cc
       both z (Ok (Unsatisfiable a)) (Ok (Unsatisfiable b)) d e f =
           let g : unsatisfiable (take a rows₁) ≡ unsatisfiable (take b rows₂) = some_one _ d.said d.says ∙ f ∙ sym (some_one _ e.said e.says) in
           let la = d.leaves.1 in
           let lb = e.leaves.1 in
           let r = (room z).1 in
-          let w = same_buffer a b rows rows₁ rows₂ d.leaves.3 e.leaves.3 (omega arith) (omega arith) (ap numbers_of g) in
+          let w = same_buffer a b rows rows₁ rows₂ d.leaves.3 e.leaves.3 (omega arith) (omega arith) cc in
           (d.leaves.0 ∙ sym e.leaves.0, ap (λ (u : ℕ). Ok (Unsatisfiable u)) w.0, d.filled ∙ sym e.filled, d.leaves.2 ∙ sym e.leaves.2, w.1)
       both z (Ok (Opened a)) (Ok (Opened b)) d e f =
           let g : opened h.kept (take a literals₁) ≡ opened k.kept (take b literals₂) = some_one _ d.said d.says ∙ f ∙ sym (some_one _ e.said e.says) in
           let la = d.leaves.1 in
           let lb = e.leaves.1 in
           let r = (room z).0 in
-          let w = same_buffer a b literals literals₁ literals₂ d.leaves.2 e.leaves.2 (omega arith) (omega arith) (ap numbers_of g) in (
-            d.leaves.0 ∙ ap (opens_with (n_of s) (m_of s)) (ap count_of g) ∙ sym e.leaves.0,
+          let w = same_buffer a b literals literals₁ literals₂ d.leaves.2 e.leaves.2 (omega arith) (omega arith) cc in (
+            d.leaves.0 ∙ ap (opens_with (n_of s) (m_of s)) (cc) ∙ sym e.leaves.0,
             ap (λ (u : ℕ). Ok (Opened u)) w.0,
             d.filled ∙ sym e.filled,
             w.1,
@@ -186,19 +170,6 @@ pub record AssumeSame (h k : Header) (x y : Result Assuming Refusal) (work work'
   pub past : drop size work ≡ drop size work'
   pub listed : literals ≡ literals'
 
-tag : AssumeAnswer → ℕ
-tag held = 0
-tag conflict = 1
-tag (implied xs) = 2
-
-tags : (a b s t : AssumeAnswer) → some a ≡ some s → some b ≡ some t → s ≡ t → tag a ≡ tag b
-tags a b s t e f g = ap tag (some_one a s e ∙ g ∙ sym (some_one b t f))
-
-implied_of : AssumeAnswer → List ℕ
-implied_of held = []
-implied_of conflict = []
-implied_of (implied xs) = xs
-
 abbrev pub AssumeRefusal : Header → List ℕ → List ℕ → ℕ → ℕ
 AssumeRefusal old work literals code = refusal (assume_checks old (length work) (length literals) code)
 
@@ -222,7 +193,6 @@ module _ (old : Header) (work work' literals : List ℕ) (code : ℕ) (same : As
     (made : AssumeRefusal old work literals code ≡ 0 → (p : Position) × Stands old work p × Stands old work' p) where
   pub assume_both : (h k : Header) (x y : Result Assuming Refusal) (work₁ work₂ literals₁ literals₂ : List ℕ)
       → AssumePromise old work literals code h x work₁ literals₁ → AssumePromise old work' literals code k y work₂ literals₂ → (h ≡ k) × (x ≡ y) × (literals₁ ≡ literals₂)
-  unfolding tag implied_of
   assume_both h k x y work₁ work₂ literals₁ literals₂ a b = go (refused_or (AssumeRefusal old work literals code))
     where
       fits : AssumeRefusal old work literals code ≡ 0 → old.n ≤ length literals
@@ -231,10 +201,10 @@ module _ (old : Header) (work work' literals : List ℕ) (code : ℕ) (same : As
       both : AssumeRefusal old work literals code ≡ 0 → (p : Position) (x y : Result Assuming Refusal)
           → AssumeLeaves old code h x work literals work₁ literals₁ → AssumeLeaves old code k y work' literals work₂ literals₂
           → (c : AssumeRight p code h x work₁ literals₁) (d : AssumeRight p code k y work₂ literals₂) → c.said ≡ d.said → (h ≡ k) × (x ≡ y) × (literals₁ ≡ literals₂)
-      both z p (Err r) y l m c d f = absurd (none_some _ c.says)
-      both z p (Ok Held) (Err r) l m c d f = absurd (none_some _ d.says)
-      both z p (Ok (Conflict v)) (Err r) l m c d f = absurd (none_some _ d.says)
-      both z p (Ok (Taken u)) (Err r) l m c d f = absurd (none_some _ d.says)
+      both z p (Err r) y l m c d f = let g = c.says in cc
+      both z p (Ok Held) (Err r) l m c d f = let g = d.says in cc
+      both z p (Ok (Conflict v)) (Err r) l m c d f = let g = d.says in cc
+      both z p (Ok (Taken u)) (Err r) l m c d f = let g = d.says in cc
       both z p (Ok Held) (Ok Held) l m c d f = (l.0 ∙ sym m.0, refl, l.2 ∙ sym m.2)
       both z p (Ok (Conflict v)) (Ok (Conflict w)) l m c d f =
           (l.1 ∙ sym m.1, ap (λ (u : ℕ). Ok (Conflict u)) (l.0 ∙ sym m.0), l.3 ∙ sym m.3)
@@ -243,14 +213,14 @@ module _ (old : Header) (work work' literals : List ℕ) (code : ℕ) (same : As
           let r = fits z in
           let lu = l.2 in
           let lw = m.2 in
-          let s = same_buffer u w literals literals₁ literals₂ l.4 m.4 (omega arith) (omega arith) (ap implied_of g) in
+          let s = same_buffer u w literals literals₁ literals₂ l.4 m.4 (omega arith) (omega arith) cc in
           (l.0 ∙ sym m.0, ap (λ (u : ℕ). Ok (Taken u)) s.0, s.1)
-      both z p (Ok Held) (Ok (Conflict w)) l m c d f = absurd (omega (arith, tags held conflict _ _ c.says d.says f))
-      both z p (Ok Held) (Ok (Taken w)) l m c d f = absurd (omega (arith, tags held (implied (take w literals₂)) _ _ c.says d.says f))
-      both z p (Ok (Conflict v)) (Ok Held) l m c d f = absurd (omega (arith, tags conflict held _ _ c.says d.says f))
-      both z p (Ok (Conflict v)) (Ok (Taken w)) l m c d f = absurd (omega (arith, tags conflict (implied (take w literals₂)) _ _ c.says d.says f))
-      both z p (Ok (Taken u)) (Ok Held) l m c d f = absurd (omega (arith, tags (implied (take u literals₁)) held _ _ c.says d.says f))
-      both z p (Ok (Taken u)) (Ok (Conflict w)) l m c d f = absurd (omega (arith, tags (implied (take u literals₁)) conflict _ _ c.says d.says f))
+      both z p (Ok Held) (Ok (Conflict w)) l m c d f = let g = c.says in let i = d.says in cc
+      both z p (Ok Held) (Ok (Taken w)) l m c d f = let g = c.says in let i = d.says in cc
+      both z p (Ok (Conflict v)) (Ok Held) l m c d f = let g = c.says in let i = d.says in cc
+      both z p (Ok (Conflict v)) (Ok (Taken w)) l m c d f = let g = c.says in let i = d.says in cc
+      both z p (Ok (Taken u)) (Ok Held) l m c d f = let g = c.says in let i = d.says in cc
+      both z p (Ok (Taken u)) (Ok (Conflict w)) l m c d f = let g = c.says in let i = d.says in cc
 
       go : RefusedOrNot (AssumeRefusal old work literals code) → (h ≡ k) × (x ≡ y) × (literals₁ ≡ literals₂)
       go (inl w) =

@@ -11,7 +11,8 @@ use Prim.Native.Nat.{ℕ, suc, ◌+◌, ◌-◌, ◌*◌, ◌≤◌, ◌<◌}
 use native.Mathlib.Omega.{arith}
 use lib.Dec.{ltb}
 use lib.ListN.{length, take}
-use borrow.Author.Tests.{ltb-true, ltb-false, le-ltb}
+use borrow.Author.Tests.{le-ltb}
+use Rattle.std.proofs.lemmas.Bool.{cases_lt}
 use Rattle.std.specs.Prelude.{Result, Ok, Err}
 use Rattle.gf2.specs.Rows.{Var}
 use Rattle.gf2.specs.Answers.{Literal, Position, withdrawn, moved, held, conflict, implied, ExplainAnswer}
@@ -28,7 +29,8 @@ use Rattle.parity.specs.declared.Assuming.TheVariants.{Held, Conflict, Taken}
 use Rattle.parity.specs.declared.Explained.{Explained}
 use Rattle.parity.specs.Promises.{Stands, AssumePromise, AssumeLeaves, AssumeRight, BackPromise, ExplainPromise, ExplainLeaves, ExplainRight}
 use Rattle.history.specs.Calls.{Counted}
-use Rattle.history.proofs.Demand.{counted, refused_or, refused_is, some_one, none_some}
+use Rattle.history.proofs.Demand.{counted, RefusedOrNot, refused_or, refused_is, some_one, none_some}
+use Rattle.history.proofs.Determined.{AssumeRefusal, ExplainRefusal}
 use Rattle.history.proofs.Accepted.{assume_accepted, back_accepted, explain_accepted}
 use Rattle.dialogue.specs.declared.Step.{Step}
 use Rattle.dialogue.specs.Dialogue.{said_assuming, said_backing, said_explaining}
@@ -49,13 +51,6 @@ last : (b : Bool) (k c : ℕ) → cond b k 0 ≡ suc c → suc c ≡ k
 last true k c e = sym e
 last false k c e = absurd (omega arith)
 
-pub enough_or : (a b : ℕ) → (a ≤ b) ⊎ (b < a)
-enough_or a b = go (ltb b a) refl
-  where
-    go : (t : Bool) → ltb b a ≡ t → (a ≤ b) ⊎ (b < a)
-    go true e = inr (ltb-true b a e)
-    go false e = inl (ltb-false b a e)
-
 module _ (h : Header) (work : List ℕ) (p : Position) (st : Stands h work p) (long : 4096 ≤ length work) where
   count : Counted h p
   count = counted h work p st
@@ -69,7 +64,7 @@ module _ (h : Header) (work : List ℕ) (p : Position) (st : Stands h work p) (l
   pub assume_said : (literals : List ℕ) → 512 ≤ length literals → (code : ℕ) (h' : Header) (answer : Result Assuming Refusal) (work' literals' : List ℕ)
       → AssumePromise h work literals code h' answer work' literals'
       → (said : Said) × (next : Position) × Command p 1 code said next × Stands h' work' next × (said_assuming answer literals' ≡ said)
-  assume_said literals room code h' answer work' literals' promise = go (refused_or (refusal (assume_checks h (length work) (length literals) code)))
+  assume_said literals room code h' answer work' literals' promise = go (refused_or (AssumeRefusal h work literals code))
     where
       fits : p.n ≤ length literals
       fits = let e = count.variables in let n = st.fit.vars in omega arith
@@ -84,7 +79,7 @@ module _ (h : Header) (work : List ℕ) (p : Position) (st : Stands h work p) (l
       told l (Ok (Taken x)) f g =
           (assume_line code g.said, moved p code g.said, session.assumed g.said l g.right, g.stands, ap (assume_line code) (some_one (implied (take x literals')) g.said g.says))
 
-      go : ((c : ℕ) × (refusal (assume_checks h (length work) (length literals) code) ≡ suc c)) ⊎ (refusal (assume_checks h (length work) (length literals) code) ≡ 0)
+      go : RefusedOrNot (AssumeRefusal h work literals code)
           → (said : Said) × (next : Position) × Command p 1 code said next × Stands h' work' next × (said_assuming answer literals' ≡ said)
       go (inl w) =
           let e = promise.refused w.0 w.1 in
@@ -117,14 +112,14 @@ module _ (h : Header) (work : List ℕ) (p : Position) (st : Stands h work p) (l
       let same = promise.refused (number r - 1) q in (
         Said.refused 9,
         p,
-        session.too_deep (deeper (enough_or depth (length p.taken)) e),
+        session.too_deep (deeper (cases_lt (length p.taken) depth) e),
         rw (same.0, same.1) st,
         ap Said.refused (q ∙ back_ninth depth (number r - 1) e),
       )
     where
-      deeper : (depth ≤ length p.taken) ⊎ (length p.taken < depth) → refusal (back_checks h (length work) depth) ≡ suc (number r - 1) → length p.taken < depth
-      deeper (inl l) e = let z = (back_accepted h work p st depth).1 l in absurd (omega (arith, e))
-      deeper (inr l) e = l
+      deeper : (length p.taken < depth) ⊎ (depth ≤ length p.taken) → refusal (back_checks h (length work) depth) ≡ suc (number r - 1) → length p.taken < depth
+      deeper (inl l) e = l
+      deeper (inr l) e = let z = (back_accepted h work p st depth).1 l in absurd (omega (arith, e))
 
   -- ---- explain
   explain_eighth : (codes rows v c : ℕ) → 512 ≤ codes → 256 ≤ rows → refusal (explain_checks h (length work) codes rows v) ≡ suc c → suc c ≡ 8
@@ -136,7 +131,7 @@ module _ (h : Header) (work : List ℕ) (p : Position) (st : Stands h work p) (l
   pub explain_said : (clause rows : List ℕ) → 512 ≤ length clause → 256 ≤ length rows → (v : ℕ) (answer : Result Explained Refusal) (clause' rows' : List ℕ)
       → ExplainPromise h work clause rows v answer clause' rows'
       → (said : Said) × Command p 3 v said p × (said_explaining answer v clause' rows' ≡ said)
-  explain_said clause rows codes numbers v answer clause' rows' promise = go (refused_or (refusal (explain_checks h (length work) (length clause) (length rows) v)))
+  explain_said clause rows codes numbers v answer clause' rows' promise = go (refused_or (ExplainRefusal h work clause rows v))
     where
       accepted : Var p.n v → refusal (explain_checks h (length work) (length clause) (length rows) v) ≡ 0
       accepted x =
@@ -155,7 +150,7 @@ module _ (h : Header) (work : List ℕ) (p : Position) (st : Stands h work p) (l
         ap (λ (y : ExplainAnswer). Said.explained v y.clause y.numbers) (some_one _ g.1.0 g.1.1),
       )
 
-      go : ((c : ℕ) × (refusal (explain_checks h (length work) (length clause) (length rows) v) ≡ suc c)) ⊎ (refusal (explain_checks h (length work) (length clause) (length rows) v) ≡ 0)
+      go : RefusedOrNot (ExplainRefusal h work clause rows v)
           → (said : Said) × Command p 3 v said p × (said_explaining answer v clause' rows' ≡ said)
       go (inl w) =
           let e = promise.refused w.0 w.1 in

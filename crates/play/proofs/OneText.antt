@@ -23,11 +23,11 @@ use Rattle.gf2.proofs.Explained.{explain_unique, explanation}
 use Rattle.gf2.proofs.Reach.{reached_solution, opened_reached, assumed_reached, withdrawn_reached}
 use Rattle.format.specs.Sheet.{n_of, sheet_rows}
 use Rattle.lines.specs.Lines.{Said, text}
-use Rattle.history.proofs.Demand.{refused_or}
+use Rattle.history.proofs.Demand.{RefusedOrNot, refused_or}
 use Rattle.dialogue.specs.Dialogue.{sheet_end, command_of}
 use Rattle.play.specs.Session.{most_bytes, sheet_part, command_part, sheet_refusal, opening_line, assume_line, Command, assumed, no_literal, gone_back, too_deep, explained, unexplained, no_variable, kind, operand, Commands, over, ended, then, Session, Says, refused, contradicted, commanded}
 use Rattle.play.specs.Pages.{Spoken}
-use Rattle.play.proofs.Answering.{enough_or}
+use Rattle.std.proofs.lemmas.Bool.{cases_lt}
 
 -- ---- at most one
 command_same : (p : Position) → Reached p → {k i : ℕ} {a b : Said} {q r : Position} → Command p k i a q → Command p k i b r → (a ≡ b) × (q ≡ r)
@@ -87,41 +87,31 @@ commands_same {p} g (then {bytes = bytes} {more = t} a cs) (then {more = u} b ds
     let e = command_same p g a b in
     ap₂ ◌++◌ (ap text e.0) (commands_same (next_reached p g a) cs (subst (λ (q : Position). Commands q bytes u) (sym e.1) ds))
 
-not_both : (rows codes : List ℕ) (kept : ℕ) → unsatisfiable rows ≡ opened kept codes → ⊥
-not_both rows codes kept e = true≢false (ap fails e)
-  where
-    fails : OpenAnswer → Bool
-    fails (unsatisfiable list) = true
-    fails (opened count list) = false
-
-checked_same : {a b : ℕ} → a ≡ suc b → a ≡ 0 → ⊥
-checked_same e f = let g = sym e ∙ f in omega arith
-
 pub session_same : {sheet commands t u : List ℕ} → Session sheet commands t → Session sheet commands u → t ≡ u
 session_same (refused e) (refused f) = let g = sym e ∙ f in ap (λ (k : ℕ). text (Said.refused k)) g
-session_same (refused e) (contradicted z f) = absurd (checked_same e z)
-session_same (refused e) (commanded z f cs) = absurd (checked_same e z)
-session_same (contradicted z f) (refused e) = absurd (checked_same e z)
+session_same (refused e) (contradicted z f) = cc
+session_same (refused e) (commanded z f cs) = cc
+session_same (contradicted z f) (refused e) = cc
 session_same {sheet} (contradicted {rows} z f) (contradicted {rows = list} y g) =
     let e : unsatisfiable rows ≡ unsatisfiable list = open_unique (n_of sheet) (sheet_rows sheet) (unsatisfiable rows) (unsatisfiable list) f g in
     ap (λ (a : OpenAnswer). text (opening_line a)) e
 session_same {sheet} (contradicted {rows} z f) (commanded {kept} {codes} y g cs) =
-    absurd (not_both rows codes kept (open_unique (n_of sheet) (sheet_rows sheet) (unsatisfiable rows) (opened kept codes) f g))
-session_same (commanded z f cs) (refused e) = absurd (checked_same e z)
+    let e = open_unique (n_of sheet) (sheet_rows sheet) (unsatisfiable rows) (opened kept codes) f g in cc
+session_same (commanded z f cs) (refused e) = cc
 session_same {sheet} (commanded {kept} {codes} y g cs) (contradicted {rows} z f) =
-    absurd (not_both rows codes kept (open_unique (n_of sheet) (sheet_rows sheet) (unsatisfiable rows) (opened kept codes) f g))
+    let e = open_unique (n_of sheet) (sheet_rows sheet) (unsatisfiable rows) (opened kept codes) f g in cc
 session_same {sheet} (commanded {kept} {codes} z f cs) (commanded {kept = count} {codes = list} y g ds) =
     let e : opened kept codes ≡ opened count list = open_unique (n_of sheet) (sheet_rows sheet) (opened kept codes) (opened count list) f g in
     ap₂ ◌++◌ (ap (λ (a : OpenAnswer). text (opening_line a)) e) (commands_same (opened_reached (n_of sheet) (sheet_rows sheet) kept codes f) cs ds)
 
 -- ---- at least one
 literal_or : (n v : ℕ) → Var n v ⊎ (Var n v → ⊥)
-literal_or n v = go (enough_or 1 v) (enough_or v n)
+literal_or n v = go (cases_lt v 1) (cases_lt n v)
   where
-    go : (1 ≤ v) ⊎ (v < 1) → (v ≤ n) ⊎ (n < v) → Var n v ⊎ (Var n v → ⊥)
-    go (inl a) (inl b) = inl (record { low = a; high = b })
-    go (inr a) b = inr (λ x. let l = x.low in omega arith)
-    go (inl a) (inr b) = inr (λ x. let h = x.high in omega arith)
+    go : (v < 1) ⊎ (1 ≤ v) → (n < v) ⊎ (v ≤ n) → Var n v ⊎ (Var n v → ⊥)
+    go (inr a) (inr b) = inl (record { low = a; high = b })
+    go (inl a) b = inr (λ x. let l = x.low in omega arith)
+    go (inr a) (inl b) = inr (λ x. let h = x.high in omega arith)
 
 abbrev Answer : Position → ℕ → ℕ → Type 0
 Answer p k i = (said : Said) × (q : Position) × Command p k i said q
@@ -134,11 +124,11 @@ assume_answered p g l = go (literal_or p.n (l / 2))
     go (inr n) = (Said.refused 8, p, no_literal n)
 
 back_answered : (p : Position) (d : ℕ) → Answer p 2 d
-back_answered p d = go (enough_or d (length p.taken))
+back_answered p d = go (cases_lt (length p.taken) d)
   where
-    go : (d ≤ length p.taken) ⊎ (length p.taken < d) → Answer p 2 d
-    go (inl m) = (Said.back d, withdrawn p d, gone_back m)
-    go (inr m) = (Said.refused 9, p, too_deep m)
+    go : (length p.taken < d) ⊎ (d ≤ length p.taken) → Answer p 2 d
+    go (inr m) = (Said.back d, withdrawn p d, gone_back m)
+    go (inl m) = (Said.refused 9, p, too_deep m)
 
 explain_answered : (p : Position) → Reached p → (v : ℕ) → Answer p 3 v
 explain_answered p g v = go (literal_or p.n v)
@@ -189,7 +179,7 @@ session_one sheet commands b = (there.0, there.1, λ y h. session_same h there.1
     there : (t : List ℕ) × Session sheet commands t
     there = go (refused_or (sheet_refusal sheet))
       where
-        go : ((c : ℕ) × (sheet_refusal sheet ≡ suc c)) ⊎ (sheet_refusal sheet ≡ 0) → (t : List ℕ) × Session sheet commands t
+        go : RefusedOrNot (sheet_refusal sheet) → (t : List ℕ) × Session sheet commands t
         go (inl w) = (text (Said.refused (suc w.0)), refused w.1)
         go (inr z) = let a = open_one (n_of sheet) (sheet_rows sheet) in opens z a.0 a.1
 

@@ -33,15 +33,6 @@ pub record Speaking (s : List ℕ) (old now : Option (List ℕ)) (r : Played) (w
   pub whole : r.more ≡ false → SessionOn s written
   pub continued : r.more ≡ true → (p : Position) × Stands r.header work p × ((more : List ℕ) → Commands p (drop r.at s) more → SessionOn s (written ++ more))
 
-pub speaking_first : {s : List ℕ} {old now : Option (List ℕ)} {r : Played} {work page page' : List ℕ} → Paged (SessionOn s) s r work page page' → Appends old now (take r.end page') → Speaking s old now r work
-speaking_first {r = r} {page' = page'} p grown = record {
-  written = take r.end page';
-  grown = grown;
-  within = p.within;
-  whole = p.whole;
-  continued = λ e. let c = p.continued e in (c.position, c.stands, c.after);
-}
-
 pub speaking_on : {s : List ℕ} {old now new : Option (List ℕ)} {r q : Played} {work work' page page' : List ℕ} → Speaking s old now r work → r.more ≡ true
     → ((p : Position) → Stands r.header work p → Paged (Commands p (drop r.at s)) s q work' page page') → Appends now new (take q.end page') → Speaking s old new q work'
 speaking_on {s} {old} {now} {new} {r} {q} {work} {work'} {page} {page'} k e paged grown = record {
@@ -56,9 +47,6 @@ speaking_on {s} {old} {now} {new} {r} {q} {work} {work'} {page} {page'} k e page
   where
     here : Paged (Commands (k.continued e).0 (drop r.at s)) s q work' page page'
     here = paged (k.continued e).0 (k.continued e).1
-
-pub spoken : {s : List ℕ} {old now : Option (List ℕ)} {r : Played} {work : List ℕ} → Speaking s old now r work → r.more ≡ false → Spoken s old now
-spoken k e = record { text = k.written; session = k.whole e; grown = k.grown }
 
 pub fewer : (most at next : ℕ) (more again : Bool) → more ≡ true → next ≤ most → (again ≡ true → at < next) → cond again (most - next + 1) 0 < cond more (most - at + 1) 0
 fewer most at next more true e l f = let h = f refl in rw e (omega arith)

@@ -90,34 +90,27 @@ fn play(
     let mut header = opened;
     let mut at = first;
     let mut end = 0;
-    while s.len() - at >= 2 {
+    let more = loop {
+        if s.len() - at < 2 {
+            break false;
+        }
         let command = dialogue::command(s[at], s[at + 1]);
         let step = append(header, work, literals, rows, page, end, command);
         if !step.more {
-            return Played {
-                at,
-                header,
-                end,
-                more: false,
-            };
+            break false;
         }
         header = step.header;
         at += 2;
         end = step.end;
         if page.len() - end < ROOM {
-            return Played {
-                at,
-                header,
-                end,
-                more: true,
-            };
+            break true;
         }
-    }
+    };
     Played {
         at,
         header,
         end,
-        more: false,
+        more,
     }
 }
 

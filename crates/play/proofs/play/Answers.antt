@@ -18,24 +18,24 @@ overflow_sub-page c = (text_put c.loop-at.invariant.0 c.append-step.ensures (ome
 
 pub returns-then-not-step-clause-paged : goal.returns-then-not-step-clause-paged
 returns-then-not-step-clause-paged c =
-    playing_ended c.loop-at.invariant.0 c.append-step.ensures c.command-command.ensures (omega (arith, c.loop-at-test.true)) (omega (arith, c.loop-at.invariant.1))
+    playing_ended c.loop-at.invariant.0 c.append-step.ensures c.command-command.ensures (omega (arith, c.if-s-at-lt2.false)) (omega (arith, c.loop-at.invariant.1))
     (omega (arith, c.loop-at.auto.work, c.requires.1.work_long)) (omega (arith, c.loop-at.auto.literals, c.requires.1.literals_long))
     (omega (arith, c.loop-at.auto.rows, c.requires.1.rows_long)) (not_true _ c.if-not-step.true)
 
 pub returns-then-page-end-lt-ROOM-clause-paged : goal.returns-then-page-end-lt-ROOM-clause-paged
 returns-then-page-end-lt-ROOM-clause-paged c =
     playing_full
-    (playing_on c.loop-at.invariant.0 c.append-step.ensures c.command-command.ensures (omega (arith, c.loop-at-test.true)) (omega (arith, c.loop-at.invariant.1))
+    (playing_on c.loop-at.invariant.0 c.append-step.ensures c.command-command.ensures (omega (arith, c.if-s-at-lt2.false)) (omega (arith, c.loop-at.invariant.1))
     (omega (arith, c.loop-at.auto.work, c.requires.1.work_long)) (omega (arith, c.loop-at.auto.literals, c.requires.1.literals_long))
     (omega (arith, c.loop-at.auto.rows, c.requires.1.rows_long)) (not-false _ c.if-not-step.false))
 
 pub loop-at-preserved : goal.loop-at-preserved
 loop-at-preserved c = (
-  playing_on c.loop-at.invariant.0 c.append-step.ensures c.command-command.ensures (omega (arith, c.loop-at-test.true)) (omega (arith, c.loop-at.invariant.1))
+  playing_on c.loop-at.invariant.0 c.append-step.ensures c.command-command.ensures (omega (arith, c.if-s-at-lt2.false)) (omega (arith, c.loop-at.invariant.1))
       (omega (arith, c.loop-at.auto.work, c.requires.1.work_long)) (omega (arith, c.loop-at.auto.literals, c.requires.1.literals_long))
       (omega (arith, c.loop-at.auto.rows, c.requires.1.rows_long)) (not-false _ c.if-not-step.false),
   omega arith,
 )
 
-pub returns-clause-paged : goal.returns-clause-paged
-returns-clause-paged c = playing_over c.loop-at.invariant.0 (omega (arith, c.loop-at-test.false))
+pub returns-then-s-at-lt2-clause-paged : goal.returns-then-s-at-lt2-clause-paged
+returns-then-s-at-lt2-clause-paged c = playing_over c.loop-at.invariant.0 (omega (arith, c.if-s-at-lt2.true))
