@@ -1,6 +1,6 @@
 -- DEMAND 3, from the promises alone: after any calls, each answer is what the definitions give for what is open, and the state matches what is then open.
 -- Each call is lent as many words of one memory as its caller says, and the state may be copied between calls.
---   RefusedOrNot, refused_or   a refusal, or none; refused_is, refused_same: the refusal of a number; some_one, none_some: an answer, or none
+--   some_one, none_some   an answer, or none; RefusedOrNot, refused_or and refused_is of format are passed on
 --   refused_right    the refusals of a list of checks are right
 --   open_step ..     one call; open_done, opening_step: an opening that is not refused, whatever the header and the words before it
 --   demand           any list of calls on a state that matches what is open
@@ -28,7 +28,7 @@ use Rattle.gf2.proofs.Chosen.{placed_length}
 use Rattle.std.specs.Prelude.{Result, Ok, Err}
 use Rattle.format.specs.Refusals.{Check, refusal, number, IsRefused}
 use Rattle.format.specs.declared.Refusal.{Refusal}
-use Rattle.format.proofs.Answering.{number_same}
+pub use Rattle.format.proofs.Answering.{RefusedOrNot, refused_or, refused_is}
 use Rattle.format.specs.Sheet.{n_of, sheet_rows}
 use Rattle.format.proofs.Refusing.{without, never}
 use Rattle.linear.proofs.Joined.{codes_length}
@@ -48,23 +48,6 @@ use Rattle.history.specs.Calls.{Called, opening, assuming, backing, explaining, 
 use Rattle.history.proofs.Memory.{front_matches, lent_matches, behind, unchanged}
 
 -- ---- what is needed of answers and checks
-abbrev pub RefusedOrNot : ℕ → Type 0
-RefusedOrNot r = ((c : ℕ) × (r ≡ suc c)) ⊎ (r ≡ 0)
-
-pub refused_or : (r : ℕ) → RefusedOrNot r
-refused_or zero = inr refl
-refused_or (suc c) = inl (c, refl)
-
-pub refused_is : {A : Type 0} (a : Result A Refusal) (k : ℕ) → IsRefused a k → (r : Refusal) × (a ≡ Err r) × (number r ≡ k)
-refused_is (Ok x) k e = absurd e
-refused_is (Err r) k e = (r, refl, e)
-
-pub refused_same : {A : Type 0} (a b : Result A Refusal) (k : ℕ) → IsRefused a k → IsRefused b k → a ≡ b
-refused_same a b k e f =
-    let r = refused_is a k e in
-    let q = refused_is b k f in
-    r.1 ∙ ap Err (number_same r.0 q.0 (r.2 ∙ sym q.2)) ∙ sym q.1
-
 pub some_one : {A : Type 0} (x y : A) → some x ≡ some y → x ≡ y
 some_one x y e = cc
 

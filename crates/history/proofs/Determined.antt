@@ -25,7 +25,7 @@ use Rattle.gf2.proofs.Reach.{reached_solution}
 use Rattle.std.specs.Prelude.{Result, Ok, Err}
 use Rattle.format.specs.Refusals.{refusal}
 use Rattle.format.specs.declared.Refusal.{Refusal}
-use Rattle.format.proofs.Answering.{number_same}
+use Rattle.format.proofs.Answering.{number_same, RefusedOrNot, refused_or, refused_same}
 use Rattle.format.specs.Sheet.{n_of, m_of, sheet_rows}
 use Rattle.format.proofs.Refusing.{accepted, none_either}
 use Rattle.judge.specs.declared.Header.{Header}
@@ -37,7 +37,7 @@ use Rattle.parity.specs.declared.Assuming.{Assuming}
 use Rattle.parity.specs.declared.Assuming.TheVariants.{Held, Conflict, Taken}
 use Rattle.parity.specs.declared.Explained.{Explained}
 use Rattle.parity.specs.Promises.{Stands, Used, Worked, OpenPromise, OpenDone, open_checks, opens_with, AssumePromise, AssumeRight, AssumeLeaves, BackPromise, ExplainPromise, ExplainRight, ExplainLeaves}
-use Rattle.history.proofs.Demand.{RefusedOrNot, refused_or, refused_same, some_one, none_some}
+use Rattle.history.proofs.Demand.{some_one}
 
 -- ---- buffers
 used : (x : ℕ) (a : List ℕ) → x ≤ length a → length (take x a) ≡ x

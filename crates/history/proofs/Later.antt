@@ -20,6 +20,7 @@ use Rattle.gf2.proofs.Unique.{assume_unique}
 use Rattle.gf2.proofs.Reach.{reached_solution}
 use Rattle.format.specs.Refusals.{refusal}
 use Rattle.format.specs.declared.Refusal.{Refusal}
+use Rattle.format.proofs.Answering.{RefusedOrNot, refused_or}
 use Rattle.judge.specs.declared.Header.{Header}
 use Rattle.judge.specs.Checks.{back_checks}
 use Rattle.parity.specs.declared.Opening.{Opening}
@@ -28,7 +29,7 @@ use Rattle.parity.specs.declared.Explained.{Explained}
 use Rattle.parity.specs.Promises.{Stands, Worked, OpenPromise, AssumePromise, BackPromise, ExplainPromise}
 use Rattle.history.specs.Calls.{open_event, Matches}
 use Rattle.history.proofs.Memory.{long}
-use Rattle.history.proofs.Demand.{RefusedOrNot, refused_or, open_done}
+use Rattle.history.proofs.Demand.{open_done}
 use Rattle.history.proofs.Determined.{OpenRefusal, open_keeps, open_both, back_keeps, AssumeRefusal, assume_keeps, assume_both, ExplainRefusal, ExplainSame, explain_both}
 
 -- ---- open
