@@ -8,7 +8,7 @@ use mathlib.Core.Bool.{false}
 use mathlib.Core.Option.{Option, none, some}
 use mathlib.Core.List.{List, ◌∷◌, ◌++◌}
 use lib.Dec.{eqb}
-use Prim.Native.Nat.{ℕ, ◌<◌, ◌≤◌}
+use Prim.Native.Nat.{ℕ, ◌<◌}
 use native.Mathlib.Omega.{arith}
 use borrow.Author.Tests.{ne_eqb}
 use Rattle.std.specs.Prelude.{Result, Ok, Err}
@@ -17,8 +17,7 @@ use Rattle.gf2.specs.Answers.{Position, OpenAnswer}
 use Rattle.gf2.specs.History.{Event, opens, Runs, at_end}
 use Rattle.format.specs.Refusals.{number}
 use Rattle.format.specs.declared.Refusal.{Refusal}
-use Rattle.format.specs.declared.Refusal.TheVariants.{ShortSheet, ManyVariables, ManyRows, LongSheet, StrayBits, FewWords, ShortAnswer, OutOfRange, AboveDepth, Unexplained, NotOpen, NoPartner}
-use Rattle.format.proofs.Answering.{number_pos}
+use Rattle.format.proofs.Answering.{number_within}
 use Rattle.judge.specs.declared.Header.{Header}
 use Rattle.parity.specs.declared.Opening.{Opening}
 use Rattle.parity.specs.declared.Opening.TheVariants.{Unsatisfiable, Opened}
@@ -46,25 +45,11 @@ exported_called (backing depth number x) = calls.backing depth number x
 exported_called (explaining v clause rows clause' rows' r x) = calls.explaining v clause rows clause' rows' x.answer x.promise
 
 -- a refusal's number is that of no other answer
-few : (r : Refusal) → number r ≤ 12
-few ShortSheet = omega arith
-few ManyVariables = omega arith
-few ManyRows = omega arith
-few LongSheet = omega arith
-few StrayBits = omega arith
-few FewWords = omega arith
-few ShortAnswer = omega arith
-few OutOfRange = omega arith
-few AboveDepth = omega arith
-few Unexplained = omega arith
-few NotOpen = omega arith
-few NoPartner = omega arith
-
 none_done : (r : Refusal) → eqb (number r) 0 ≡ false
-none_done r = ne_eqb (number r) 0 (let p = number_pos r in omega arith)
+none_done r = ne_eqb (number r) 0 (let p = (number_within r).0 in omega arith)
 
 not_above : (r : Refusal) (k : ℕ) → 12 < k → eqb (number r) k ≡ false
-not_above r k l = ne_eqb (number r) k (let p = few r in omega arith)
+not_above r k l = ne_eqb (number r) k (let p = (number_within r).1 in omega arith)
 
 open_reads : (s : List ℕ) (r : OpenNumbers) (answer : Result Opening Refusal) (h : Header) (literals rows : List ℕ) → r ≡ open_numbers answer h
     → open_read s r literals rows ≡ open_event s answer r.header.kept literals rows

@@ -1,7 +1,9 @@
 -- THE EXPORTS: which numbers each answer of the module is given to C as, and what each call with numbers promises.
---   read_numbers, write_numbers, open_numbers, assume_numbers, explain_numbers   the struct that an answer becomes: its number, its values, and 0 in a field that the number gives no meaning
+--   read_numbers, write_numbers, open_numbers, assume_numbers, explain_numbers   the struct that an answer becomes: its number,
+--                           its values, and 0 in a field that the number gives no meaning
 --   read_n, read_m, write_size   the values of a sheet's answers; those of the other calls are parity's own
---   ReadExport .. r ..      r is the struct of an answer that the module promises, and so are the buffers after the call; WriteExport, OpenExport, AssumeExport and ExplainExport alike
+--   ReadExport .. r ..      r is the struct of an answer that the module promises, and so are the buffers after the call;
+--                           WriteExport, OpenExport, AssumeExport and ExplainExport alike
 -- Back answers a plain number: its promise is BackPromise of parity itself.
 -- Assumes nothing.
 use Rattle.std.specs.Prelude.{◌≡◌, List, ℕ, Result, Ok, Err}

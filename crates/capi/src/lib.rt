@@ -59,7 +59,7 @@ pub struct ExplainNumbers {
     pub rows: usize,
 }
 
-// A sheet is read into a row store.
+// Reads a sheet into a row store.
 #[unsafe(no_mangle)]
 pub extern "C" fn parity_read(s: &[u8], store: &mut [u64]) -> ReadNumbers
     ensures { ReadExport s.now store.old result store.new }
@@ -78,7 +78,7 @@ pub extern "C" fn parity_read(s: &[u8], store: &mut [u64]) -> ReadNumbers
     }
 }
 
-// A row store is written as a sheet.
+// Writes a row store as a sheet.
 #[unsafe(no_mangle)]
 pub extern "C" fn parity_write(n: usize, m: usize, store: &[u64], out: &mut [u8]) -> WriteNumbers
     ensures { WriteExport n m store.now out.old result out.new }
@@ -92,7 +92,7 @@ pub extern "C" fn parity_write(n: usize, m: usize, store: &[u64], out: &mut [u8]
     }
 }
 
-// A sheet is opened.
+// Opens a sheet.
 #[unsafe(no_mangle)]
 pub extern "C" fn parity_open(
     old: Header,
@@ -117,7 +117,7 @@ pub extern "C" fn parity_open(
     }
 }
 
-// A literal is assumed.
+// Assumes a literal.
 #[unsafe(no_mangle)]
 pub extern "C" fn parity_assume(
     h: Header,
@@ -141,7 +141,7 @@ pub extern "C" fn parity_assume(
     }
 }
 
-// Back to a depth: the lent header is changed in place.
+// Goes back to a depth: the lent header is changed in place.
 #[unsafe(no_mangle)]
 pub extern "C" fn parity_back(h: &mut Header, work: &mut [u64], depth: usize) -> u64
     ensures { BackPromise h.old work.old depth result h.new work.new }
@@ -154,7 +154,7 @@ pub extern "C" fn parity_back(h: &mut Header, work: &mut [u64], depth: usize) ->
     }
 }
 
-// The value of a variable is explained.
+// Explains the value of a variable.
 #[unsafe(no_mangle)]
 pub extern "C" fn parity_explain(
     h: Header,

@@ -23,7 +23,7 @@ pub struct Field {
 }
 
 impl Cursor {
-    // The next count bits of s, byte by byte: for the last nine bytes, which hold no window of 64 bits at every bit.
+    // Reads the next count bits of s, byte by byte: for the last nine bytes, which hold no window of 64 bits at every bit.
     fn field_bytes(self, s: &[u8], count: usize) -> Field
         requires { (count ≤ 64) × (self.at + count ≤ 8 * length s.now) × (self.at < 2 ^ 32) }
         ensures { (result.value ≡ value_of (take count (drop self.at (bits_of s.now)))) × (result.next.at ≡ self.at + count) }
@@ -47,7 +47,7 @@ impl Cursor {
         }
     }
 
-    // The next count bits of s.
+    // Reads the next count bits of s.
     pub fn field(self, s: &[u8], count: usize) -> Field
         requires { (count ≤ 64) × (self.at + count ≤ 8 * length s.now) × (self.at < 2 ^ 32) }
         ensures { (result.value ≡ value_of (take count (drop self.at (bits_of s.now)))) × (result.next.at ≡ self.at + count) }
@@ -121,7 +121,7 @@ pub struct HeadField {
     pub next: Cursor,
 }
 
-// n and m, as the first 19 bits say them.
+// Reads n and m from the first 19 bits, and gives the cursor behind them.
 pub fn head_of(s: &[u8]) -> HeadField
     requires { 3 ≤ length s.now }
     ensures { (result.head.n ≡ n_of s.now) × (result.head.m ≡ m_of s.now) × (result.next.at ≡ 19) }

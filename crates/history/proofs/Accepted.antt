@@ -6,7 +6,7 @@
 use mathlib.Core.Path.{◌≡◌, subst}
 use mathlib.Core.Logic.{◌↔◌}
 use mathlib.Core.List.{List}
-use lib.ListN.{length, length-take}
+use lib.ListN.{length}
 use Prim.Native.Nat.{ℕ, ◌≤◌}
 use native.Mathlib.Omega.{arith}
 use Rattle.gf2.specs.Rows.{Var}
@@ -16,7 +16,6 @@ use Rattle.format.specs.Refusals.{refusal}
 use Rattle.judge.specs.declared.Header.{Header}
 use Rattle.judge.specs.Checks.{back_checks}
 use Rattle.judge.proofs.Judged.{back_judged, assume_judged, explain_judged, back_passes, assume_passes, explain_passes}
-use Rattle.tableau.specs.Layout.{size}
 use Rattle.parity.specs.Promises.{Stands}
 use Rattle.history.specs.Calls.{Counted}
 use Rattle.history.proofs.Memory.{long}

@@ -1,6 +1,6 @@
 -- DEMAND 3, from the promises alone: after any calls, each answer is what the definitions give for what is open, and the state matches what is then open.
 -- Each call is lent as many words of one memory as its caller says, and the state may be copied between calls.
---   RefusedOrNot, refused_or   a refusal, or none; refused_is, refused_same: the refusal of a number; some_one, none_some: an answer, or none
+--   some_one, none_some   an answer, or none; RefusedOrNot, refused_or and refused_is of format are passed on
 --   refused_right    the refusals of a list of checks are right
 --   open_step ..     one call; open_done, opening_step: an opening that is not refused, whatever the header and the words before it
 --   demand           any list of calls on a state that matches what is open
@@ -10,7 +10,7 @@
 -- Assumes nothing.
 use mathlib.Core.Path.{◌≡◌, refl, sym, ap, ◌∙◌, subst}
 use mathlib.Core.Bool.{Bool, true, false, true≢false, false≢true, cond}
-use mathlib.Core.Logic.{◌⊎◌, inl, inr}
+use mathlib.Core.Logic.{inl, inr}
 use mathlib.Core.Option.{Option, none, some}
 use mathlib.Core.List.{List, [], ◌∷◌, ◌++◌}
 use lib.ListN.{length, take, drop}
@@ -20,7 +20,7 @@ use native.Mathlib.Omega.{arith}
 use borrow.Author.Tests.{ne_eqb}
 use Rattle.gf2.specs.Rows.{Var, Rows}
 use Rattle.gf2.specs.Answers.{Literal, Position, withdrawn, OpenAnswer, AnswersOpen, AssumeAnswer, held, conflict, implied, AnswersAssume, moved, Explanation}
-use Rattle.gf2.specs.History.{Event, opens, assumes, backs, explains, unexplained, stuck, refused, after, Right, Runs, at_end}
+use Rattle.gf2.specs.History.{Event, opens, assumes, unexplained, stuck, refused, after, Right, Runs, at_end}
 use Rattle.gf2.proofs.Literals.{of_range}
 use Rattle.gf2.proofs.Parts.{cons_not_nil}
 use Rattle.gf2.proofs.Unique.{kept_unique}
@@ -28,7 +28,7 @@ use Rattle.gf2.proofs.Chosen.{placed_length}
 use Rattle.std.specs.Prelude.{Result, Ok, Err}
 use Rattle.format.specs.Refusals.{Check, refusal, number, IsRefused}
 use Rattle.format.specs.declared.Refusal.{Refusal}
-use Rattle.format.proofs.Answering.{number_same}
+pub use Rattle.format.proofs.Answering.{RefusedOrNot, refused_or, refused_is}
 use Rattle.format.specs.Sheet.{n_of, sheet_rows}
 use Rattle.format.proofs.Refusing.{without, never}
 use Rattle.linear.proofs.Joined.{codes_length}
@@ -48,23 +48,6 @@ use Rattle.history.specs.Calls.{Called, opening, assuming, backing, explaining, 
 use Rattle.history.proofs.Memory.{front_matches, lent_matches, behind, unchanged}
 
 -- ---- what is needed of answers and checks
-abbrev pub RefusedOrNot : ℕ → Type 0
-RefusedOrNot r = ((c : ℕ) × (r ≡ suc c)) ⊎ (r ≡ 0)
-
-pub refused_or : (r : ℕ) → RefusedOrNot r
-refused_or zero = inr refl
-refused_or (suc c) = inl (c, refl)
-
-pub refused_is : {A : Type 0} (a : Result A Refusal) (k : ℕ) → IsRefused a k → (r : Refusal) × (a ≡ Err r) × (number r ≡ k)
-refused_is (Ok x) k e = absurd e
-refused_is (Err r) k e = (r, refl, e)
-
-pub refused_same : {A : Type 0} (a b : Result A Refusal) (k : ℕ) → IsRefused a k → IsRefused b k → a ≡ b
-refused_same a b k e f =
-    let r = refused_is a k e in
-    let q = refused_is b k f in
-    r.1 ∙ ap Err (number_same r.0 q.0 (r.2 ∙ sym q.2)) ∙ sym q.1
-
 pub some_one : {A : Type 0} (x y : A) → some x ≡ some y → x ≡ y
 some_one x y e = cc
 
@@ -76,12 +59,14 @@ literal_of h words room code e = let j = assume_judged h words room code e in of
 
 -- where something is open, line 11 does not hold
 refused_right : (s : Option Position) (h : Header) (mem : List ℕ) → Matches h mem s
-    → (cs : List Check) → without 10 cs ≡ true → without 12 cs ≡ true → (Fit h → without 11 cs ≡ true) → (c : ℕ) → refusal cs ≡ suc c → Right s (refused (suc c))
+    → (cs : List Check) → without 10 cs ≡ true → without 12 cs ≡ true → (Fit h → without 11 cs ≡ true)
+    → (c : ℕ) → refusal cs ≡ suc c → Right s (refused (suc c))
 refused_right none h mem m cs ten twelve eleven c e = (never 10 cs ten c e, never 12 cs twelve c e)
 refused_right (some q) h mem m cs ten twelve eleven c e = (never 10 cs ten c e, never 11 cs (eleven m.fit) c e, never 12 cs twelve c e)
 
 -- ---- open
-pub open_done : (s₀ : Option Position) (s store work literals rows store' literals' rows' : List ℕ) (answer : Result Opening Refusal) (h' : Header) (work' : List ℕ)
+pub open_done : (s₀ : Option Position) (s store work literals rows store' literals' rows' : List ℕ)
+    (answer : Result Opening Refusal) (h' : Header) (work' : List ℕ)
     → OpenDone s store work literals rows h' answer store' work' literals' rows'
     → Right s₀ (open_event s answer h'.kept literals' rows') × Matches h' work' (after s₀ (open_event s answer h'.kept literals' rows'))
 open_done s₀ s store work literals rows store' literals' rows' (Err r) h' work' d = absurd d.leaves
@@ -90,13 +75,15 @@ open_done s₀ s store work literals rows store' literals' rows' (Ok (Unsatisfia
   where
     shut : h' ≡ nothing_open → h'.«open» ≡ 1 → ⊥
     shut e f = let g : h'.«open» ≡ 0 = ap (λ (k : Header). k.«open») e in absurd (omega arith)
-open_done s₀ s store work literals rows store' literals' rows' (Ok (Opened x)) h' work' d = (subst (AnswersOpen (n_of s) (sheet_rows s)) (sym (some_one _ d.said d.says)) d.right, d.leaves.4)
+open_done s₀ s store work literals rows store' literals' rows' (Ok (Opened x)) h' work' d =
+    (subst (AnswersOpen (n_of s) (sheet_rows s)) (sym (some_one _ d.said d.says)) d.right, d.leaves.4)
 
-open_step : (s₀ : Option Position) (h : Header) (mem : List ℕ) (words : ℕ) (s store literals rows store' literals' rows' : List ℕ) (answer : Result Opening Refusal)
-    (h' : Header) (part : List ℕ) → Matches h mem s₀
+open_step : (s₀ : Option Position) (h : Header) (mem : List ℕ) (words : ℕ) (s store literals rows store' literals' rows' : List ℕ)
+    (answer : Result Opening Refusal) (h' : Header) (part : List ℕ) → Matches h mem s₀
     → OpenPromise h s store (take words mem) literals rows h' answer store' part literals' rows'
     → Right s₀ (open_event s answer h'.kept literals' rows') × Matches h' (part ++ drop words mem) (after s₀ (open_event s answer h'.kept literals' rows'))
-open_step s₀ h mem words s store literals rows store' literals' rows' answer h' part m p = go (refused_or (refusal (open_checks s (length store) (length (take words mem)) (length literals) (length rows))))
+open_step s₀ h mem words s store literals rows store' literals' rows' answer h' part m p =
+    go (refused_or (refusal (open_checks s (length store) (length (take words mem)) (length literals) (length rows))))
   where
     go : RefusedOrNot (refusal (open_checks s (length store) (length (take words mem)) (length literals) (length rows)))
         → Right s₀ (open_event s answer h'.kept literals' rows') × Matches h' (part ++ drop words mem) (after s₀ (open_event s answer h'.kept literals' rows'))
@@ -114,12 +101,16 @@ assume_step : (s₀ : Option Position) (h : Header) (mem : List ℕ) (words code
     (h' : Header) (part : List ℕ) → Matches h mem s₀
     → AssumePromise h (take words mem) literals code h' answer part literals'
     → Right s₀ (assume_event code answer literals') × Matches h' (part ++ drop words mem) (after s₀ (assume_event code answer literals'))
-assume_step s₀ h mem words code literals literals' answer h' part m p = go (refused_or (refusal (assume_checks h (length (take words mem)) (length literals) code))) s₀ m
+assume_step s₀ h mem words code literals literals' answer h' part m p =
+    go (refused_or (refusal (assume_checks h (length (take words mem)) (length literals) code))) s₀ m
   where
-    given : (q : Position) → Stands h mem q → Literal h.n code → (a said : AssumeAnswer) → a ≡ said → AnswersAssume q code said → Stands h' part (moved q code said)
+    given : (q : Position) → Stands h mem q → Literal h.n code → (a said : AssumeAnswer) → a ≡ said → AnswersAssume q code said
+        → Stands h' part (moved q code said)
         → Right (some q) (assumes code a) × Matches h' (part ++ drop words mem) (after (some q) (assumes code a))
-    given q st l a said e f g =
-        ((rw (ap (λ (z : Position). z.n) st.here) l, subst (AnswersAssume q code) (sym e) f), behind h' part (drop words mem) (some (moved q code a)) (subst (λ (z : AssumeAnswer). Stands h' part (moved q code z)) (sym e) g))
+    given q st l a said e f g = (
+      (rw (ap (λ (z : Position). z.n) st.here) l, subst (AnswersAssume q code) (sym e) f),
+      behind h' part (drop words mem) (some (moved q code a)) (subst (λ (z : AssumeAnswer). Stands h' part (moved q code z)) (sym e) g),
+    )
 
     right_step : (q : Position) → Stands h mem q → Literal h.n code → (answer : Result Assuming Refusal) → AssumeRight q code h' answer part literals'
         → Right (some q) (assume_event code answer literals') × Matches h' (part ++ drop words mem) (after (some q) (assume_event code answer literals'))
@@ -135,7 +126,8 @@ assume_step s₀ h mem words code literals literals' answer h' part m p = go (re
         let e = p.refused w.0 w.1 in
         let r = refused_is answer (suc w.0) e.0 in
         let cs = assume_checks h (length (take words mem)) (length literals) code in
-        rw (r.1, r.2, ne_eqb (suc w.0) 12 (never 12 cs refl w.0 w.1)) (refused_right s h mem m cs refl refl (λ f. rw (is_fit h f)) w.0 w.1, unchanged mem part words s e.1 e.2 m)
+        rw (r.1, r.2, ne_eqb (suc w.0) 12 (never 12 cs refl w.0 w.1))
+        (refused_right s h mem m cs refl refl (λ f. rw (is_fit h f)) w.0 w.1, unchanged mem part words s e.1 e.2 m)
     go (inr z) none m = absurd (m (assume_judged h (length (take words mem)) (length literals) code z).0.is_open)
     go (inr z) (some q) m =
         let j = assume_judged h (length (take words mem)) (length literals) code z in
@@ -147,9 +139,11 @@ back_step : (s₀ : Option Position) (h : Header) (mem : List ℕ) (words depth 
     → Right s₀ (back_event depth number) × Matches h' (part ++ drop words mem) (after s₀ (back_event depth number))
 back_step s₀ h mem words depth (suc c) h' part m p =
     let e = p.refused c refl in
-    (refused_right s₀ h mem m (back_checks h (length (take words mem)) depth) refl refl (λ f. rw (is_fit h f)) c (sym p.answer), unchanged mem part words s₀ e.0 e.1 m)
+    let cs = back_checks h (length (take words mem)) depth in
+    (refused_right s₀ h mem m cs refl refl (λ f. rw (is_fit h f)) c (sym p.answer), unchanged mem part words s₀ e.0 e.1 m)
 back_step none h mem words depth zero h' part m p = absurd (m (back_judged h (length (take words mem)) depth (sym p.answer)).0.is_open)
-back_step (some q) h mem words depth zero h' part m p = (deep, behind h' part (drop words mem) (some (withdrawn q depth)) (p.right refl q (lent_matches h mem words (some q) judged.1 m)))
+back_step (some q) h mem words depth zero h' part m p =
+    (deep, behind h' part (drop words mem) (some (withdrawn q depth)) (p.right refl q (lent_matches h mem words (some q) judged.1 m)))
   where
     judged : Fit h × (4096 ≤ length (take words mem)) × (depth ≤ h.depth)
     judged = back_judged h (length (take words mem)) depth (sym p.answer)
@@ -165,14 +159,18 @@ explain_step : (s₀ : Option Position) (h : Header) (mem : List ℕ) (words v :
     → Matches h mem s₀
     → ExplainPromise h (take words mem) clause rows v answer clause' rows'
     → Right s₀ (explain_event v answer clause' rows') × Matches h (take words mem ++ drop words mem) (after s₀ (explain_event v answer clause' rows'))
-explain_step s₀ h mem words v clause rows clause' rows' answer m p = go (refused_or (refusal (explain_checks h (length (take words mem)) (length clause) (length rows) v))) s₀ m
+explain_step s₀ h mem words v clause rows clause' rows' answer m p =
+    go (refused_or (refusal (explain_checks h (length (take words mem)) (length clause) (length rows) v))) s₀ m
   where
     right_step : (q : Position) → Stands h mem q → Var h.n v → (answer : Result Explained Refusal)
         → ExplainLeaves h answer clause rows clause' rows' → ExplainRight q v answer clause' rows'
-        → Right (some q) (explain_event v answer clause' rows') × Matches h (take words mem ++ drop words mem) (after (some q) (explain_event v answer clause' rows'))
+        → Right (some q) (explain_event v answer clause' rows')
+        × Matches h (take words mem ++ drop words mem) (after (some q) (explain_event v answer clause' rows'))
     right_step q st l (Err e) f r = rw f.0 ((rw (ap (λ (z : Position). z.n) st.here) l, r), unchanged mem (take words mem) words (some q) refl refl st)
-    right_step q st l (Ok e) f r =
-        ((rw (ap (λ (z : Position). z.n) st.here) l, r.0, subst (Explanation q v) (sym (some_one _ r.1.0 r.1.1)) r.1.2), unchanged mem (take words mem) words (some q) refl refl st)
+    right_step q st l (Ok e) f r = (
+      (rw (ap (λ (z : Position). z.n) st.here) l, r.0, subst (Explanation q v) (sym (some_one _ r.1.0 r.1.1)) r.1.2),
+      unchanged mem (take words mem) words (some q) refl refl st,
+    )
 
     go : RefusedOrNot (refusal (explain_checks h (length (take words mem)) (length clause) (length rows) v))
         → (s : Option Position) → Matches h mem s
@@ -181,7 +179,8 @@ explain_step s₀ h mem words v clause rows clause' rows' answer m p = go (refus
         let e = p.refused w.0 w.1 in
         let r = refused_is answer (suc w.0) e.0 in
         let cs = explain_checks h (length (take words mem)) (length clause) (length rows) v in
-        rw (r.1, r.2, ne_eqb (suc w.0) 10 (never 10 cs refl w.0 w.1)) (refused_right s h mem m cs refl refl (λ f. rw (is_fit h f)) w.0 w.1, unchanged mem (take words mem) words s refl refl m)
+        rw (r.1, r.2, ne_eqb (suc w.0) 10 (never 10 cs refl w.0 w.1))
+        (refused_right s h mem m cs refl refl (λ f. rw (is_fit h f)) w.0 w.1, unchanged mem (take words mem) words s refl refl m)
     go (inr z) none m = absurd (m (explain_judged h (length (take words mem)) (length clause) (length rows) v z).0.is_open)
     go (inr z) (some q) m =
         let j = explain_judged h (length (take words mem)) (length clause) (length rows) v z in
@@ -190,7 +189,8 @@ explain_step s₀ h mem words v clause rows clause' rows' answer m p = go (refus
 -- ---- any calls
 called_step : (s : Option Position) {h h' : Header} (mem part : List ℕ) (words : ℕ) → Matches h mem s → (c : Called h (take words mem) h' part)
     → Right s (event c) × Matches h' (part ++ drop words mem) (after s (event c))
-called_step s {h} {h'} mem part words m (opening sh store literals rows store' literals' rows' answer p) = open_step s h mem words sh store literals rows store' literals' rows' answer h' part m p
+called_step s {h} {h'} mem part words m (opening sh store literals rows store' literals' rows' answer p) =
+    open_step s h mem words sh store literals rows store' literals' rows' answer h' part m p
 called_step s {h} {h'} mem part words m (assuming code literals literals' answer p) = assume_step s h mem words code literals literals' answer h' part m p
 called_step s {h} {h'} mem part words m (backing depth number p) = back_step s h mem words depth number h' part m p
 called_step s {h} {h'} mem part words m (explaining v clause rows clause' rows' answer p) = explain_step s h mem words v clause rows clause' rows' answer m p
@@ -208,12 +208,7 @@ demand s {h} {mem = mem} m (copied {mem' = mem'} same cs) = demand s (front_matc
 -- ---- from an opening on, whatever was there before
 abbrev is_opening : Event → Bool
 is_opening (opens n rows answer) = true
-is_opening (assumes l answer) = false
-is_opening (backs d) = false
-is_opening (explains v answer) = false
-is_opening (unexplained v) = false
-is_opening (stuck l) = false
-is_opening (refused number) = false
+is_opening e = false
 
 abbrev begins_opening : List Event → Bool
 begins_opening [] = false
@@ -223,9 +218,15 @@ abbrev later_events : List Event → List Event
 later_events [] = []
 later_events (e ∷ es) = es
 
+-- a refusal is no opening, also where it is an event of its own
+refused_as : (own : Event) → is_opening own ≡ false → (b : Bool) (k : ℕ) → is_opening (cond b own (refused k)) ≡ true → ⊥
+refused_as own n true k e = false≢true (sym n ∙ e)
+refused_as own n false k e = false≢true e
+
 opening_step : (s : Option Position) {h h' : Header} {work work' : List ℕ} (c : Called h work h' work') → is_opening (event c) ≡ true
     → Right s (event c) × Matches h' work' (after s (event c))
-opening_step s {h} {h'} {work} {work'} (opening sh store literals rows store' literals' rows' answer p) f = go (refused_or (refusal (open_checks sh (length store) (length work) (length literals) (length rows))))
+opening_step s {h} {h'} {work} {work'} (opening sh store literals rows store' literals' rows' answer p) f =
+    go (refused_or (refusal (open_checks sh (length store) (length work) (length literals) (length rows))))
   where
     none_here : (answer : Result Opening Refusal) (k : ℕ) → IsRefused answer k → is_opening (open_event sh answer h'.kept literals' rows') ≡ true → ⊥
     none_here (Ok x) k e g = e
@@ -237,12 +238,8 @@ opening_step s {h} {h'} {work} {work'} (opening sh store literals rows store' li
     go (inr z) = open_done s sh store work literals rows store' literals' rows' answer h' work' (p.done z)
 opening_step s (assuming code literals literals' answer p) f = absurd (go answer f)
   where
-    one_of : (b : Bool) (k : ℕ) → is_opening (cond b (stuck code) (refused k)) ≡ true → ⊥
-    one_of true k e = false≢true e
-    one_of false k e = false≢true e
-
     go : (answer : Result Assuming Refusal) → is_opening (assume_event code answer literals') ≡ true → ⊥
-    go (Err r) e = one_of (eqb (number r) 12) (number r) e
+    go (Err r) e = refused_as (stuck code) refl (eqb (number r) 12) (number r) e
     go (Ok Held) e = false≢true e
     go (Ok (Conflict v)) e = false≢true e
     go (Ok (Taken x)) e = false≢true e
@@ -250,12 +247,8 @@ opening_step s (backing depth zero p) f = absurd (false≢true f)
 opening_step s (backing depth (suc c) p) f = absurd (false≢true f)
 opening_step s (explaining v clause rows clause' rows' answer p) f = absurd (go answer f)
   where
-    one_of : (b : Bool) (k : ℕ) → is_opening (cond b (unexplained v) (refused k)) ≡ true → ⊥
-    one_of true k e = false≢true e
-    one_of false k e = false≢true e
-
     go : (answer : Result Explained Refusal) → is_opening (explain_event v answer clause' rows') ≡ true → ⊥
-    go (Err r) e = one_of (eqb (number r) 10) (number r) e
+    go (Err r) e = refused_as (unexplained v) refl (eqb (number r) 10) (number r) e
     go (Ok x) e = false≢true e
 
 after_opening : {h h' h'' : Header} (mem part mem'' : List ℕ) (words : ℕ) (c : Called h (take words mem) h' part)
@@ -280,12 +273,7 @@ demand_opened (copied same cs) before later n rows answer e = demand_opened cs b
 -- only an opening opens something where nothing is
 nothing_after : (e : Event) → is_opening e ≡ false → after none e ≡ none
 nothing_after (opens n rows answer) f = absurd (true≢false f)
-nothing_after (assumes l answer) f = refl
-nothing_after (backs d) f = refl
-nothing_after (explains v answer) f = refl
-nothing_after (unexplained v) f = refl
-nothing_after (stuck l) f = refl
-nothing_after (refused number) f = refl
+nothing_after e f = refl
 
 pub demand_stands : {h h' : Header} {mem mem' : List ℕ} (cs : Calls Called h mem h' mem') (p : Position) → at_end none (events cs) ≡ some p → Stands h' mem' p
 demand_stands done p e = absurd (none_some p e)

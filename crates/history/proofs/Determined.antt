@@ -1,4 +1,6 @@
 -- EACH PROMISE DETERMINES ITS RESULT: two results that one promise allows are the same.
+--   OpenRefusal, AssumeRefusal, ExplainRefusal   what the checks of a call come to: the number of its refusal, or 0
+--   OpenSame, AssumeSame, ExplainSame   two results of a call are the same, so far as its promise determines them
 --   same_buffer          two answer buffers with the same used part are equal
 --   open_keeps, back_keeps, assume_keeps   for every input: the working buffer keeps its length, and what it had past its first 4,096 words
 --   open_determined      for every input: answer, header, row store and answer buffers
@@ -9,23 +11,21 @@
 -- nor are the answers on a foreign state where the checks refuse nothing.
 -- Assumes nothing.
 use mathlib.Core.Path.{◌≡◌, refl, sym, ap, ap₂, ◌∙◌}
-use mathlib.Core.Bool.{Bool, true, false, true≢false}
 use mathlib.Core.Logic.{inl, inr}
-use mathlib.Core.Option.{some}
-use mathlib.Core.List.{List, [], ◌++◌}
+use mathlib.Core.List.{List, ◌++◌}
 use lib.ListN.{length, take, drop, take-append-drop, length-take}
 use lib.Dec.{ltb}
 use Prim.Native.Nat.{ℕ, zero, suc, ◌≤◌}
 use native.Mathlib.Omega.{arith}
 use borrow.Author.Tests.{ltb-false}
-use Rattle.gf2.specs.Answers.{Position, opened, unsatisfiable, OpenAnswer, AssumeAnswer, held, conflict, implied, ExplainAnswer, Reached}
+use Rattle.gf2.specs.Answers.{Position, opened, unsatisfiable, implied, ExplainAnswer, Reached}
 use Rattle.gf2.proofs.Unique.{open_unique, assume_unique}
 use Rattle.gf2.proofs.Explained.{explain_unique}
 use Rattle.gf2.proofs.Reach.{reached_solution}
 use Rattle.std.specs.Prelude.{Result, Ok, Err}
 use Rattle.format.specs.Refusals.{refusal}
 use Rattle.format.specs.declared.Refusal.{Refusal}
-use Rattle.format.proofs.Answering.{number_same}
+use Rattle.format.proofs.Answering.{number_same, RefusedOrNot, refused_or, refused_same}
 use Rattle.format.specs.Sheet.{n_of, m_of, sheet_rows}
 use Rattle.format.proofs.Refusing.{accepted, none_either}
 use Rattle.judge.specs.declared.Header.{Header}
@@ -37,7 +37,7 @@ use Rattle.parity.specs.declared.Assuming.{Assuming}
 use Rattle.parity.specs.declared.Assuming.TheVariants.{Held, Conflict, Taken}
 use Rattle.parity.specs.declared.Explained.{Explained}
 use Rattle.parity.specs.Promises.{Stands, Used, Worked, OpenPromise, OpenDone, open_checks, opens_with, AssumePromise, AssumeRight, AssumeLeaves, BackPromise, ExplainPromise, ExplainRight, ExplainLeaves}
-use Rattle.history.proofs.Demand.{RefusedOrNot, refused_or, refused_same, some_one, none_some}
+use Rattle.history.proofs.Demand.{some_one}
 
 -- ---- buffers
 used : (x : ℕ) (a : List ℕ) → x ≤ length a → length (take x a) ≡ x
@@ -66,21 +66,21 @@ pub record OpenSame (h k : Header) (x y : Result Opening Refusal) (store store' 
   pub listed : literals ≡ literals'
   pub numbers : rows ≡ rows'
 
-abbrev pub OpenRefusal : Header → List ℕ → List ℕ → List ℕ → List ℕ → List ℕ → ℕ
-OpenRefusal old s store work literals rows = refusal (open_checks s (length store) (length work) (length literals) (length rows))
+abbrev pub OpenRefusal : List ℕ → List ℕ → List ℕ → List ℕ → List ℕ → ℕ
+OpenRefusal s store work literals rows = refusal (open_checks s (length store) (length work) (length literals) (length rows))
 
 pub open_keeps : (old : Header) (s store work literals rows : List ℕ) (h : Header) (x : Result Opening Refusal) (store₁ work₁ literals₁ rows₁ : List ℕ)
     → OpenPromise old s store work literals rows h x store₁ work₁ literals₁ rows₁ → Worked work work₁
-open_keeps old s store work literals rows h x store₁ work₁ literals₁ rows₁ p = go (refused_or (OpenRefusal old s store work literals rows))
+open_keeps old s store work literals rows h x store₁ work₁ literals₁ rows₁ p = go (refused_or (OpenRefusal s store work literals rows))
   where
-    go : RefusedOrNot (OpenRefusal old s store work literals rows) → Worked work work₁
+    go : RefusedOrNot (OpenRefusal s store work literals rows) → Worked work work₁
     go (inl w) = as_it_was (p.refused w.0 w.1).3
     go (inr z) = (p.done z).worked
 
 -- two working buffers of which the checks say the same: what they hold does not matter
 module _ (old : Header) (s store work work' literals rows : List ℕ)
-    (same : OpenRefusal old s store work' literals rows ≡ OpenRefusal old s store work literals rows) where
-  room : OpenRefusal old s store work literals rows ≡ 0 → (n_of s ≤ length literals) × (m_of s ≤ length rows)
+    (same : OpenRefusal s store work' literals rows ≡ OpenRefusal s store work literals rows) where
+  room : OpenRefusal s store work literals rows ≡ 0 → (n_of s ≤ length literals) × (m_of s ≤ length rows)
   room z =
       let a = accepted (open_checks s (length store) (length work) (length literals) (length rows)) refl z in
       let f = none_either (ltb (length literals) (n_of s)) (ltb (length rows) (m_of s)) a.1.1.1.1.1.1.1.1.0 in
@@ -89,9 +89,9 @@ module _ (old : Header) (s store work work' literals rows : List ℕ)
   pub open_both : (h k : Header) (x y : Result Opening Refusal) (store₁ store₂ work₁ work₂ literals₁ literals₂ rows₁ rows₂ : List ℕ)
       → OpenPromise old s store work literals rows h x store₁ work₁ literals₁ rows₁ → OpenPromise old s store work' literals rows k y store₂ work₂ literals₂ rows₂
       → (h ≡ k) × (x ≡ y) × (store₁ ≡ store₂) × (literals₁ ≡ literals₂) × (rows₁ ≡ rows₂)
-  open_both h k x y store₁ store₂ work₁ work₂ literals₁ literals₂ rows₁ rows₂ p q = go (refused_or (OpenRefusal old s store work literals rows))
+  open_both h k x y store₁ store₂ work₁ work₂ literals₁ literals₂ rows₁ rows₂ p q = go (refused_or (OpenRefusal s store work literals rows))
     where
-      both : (z : OpenRefusal old s store work literals rows ≡ 0) (x y : Result Opening Refusal)
+      both : (z : OpenRefusal s store work literals rows ≡ 0) (x y : Result Opening Refusal)
           (d : OpenDone s store work literals rows h x store₁ work₁ literals₁ rows₁)
           (e : OpenDone s store work' literals rows k y store₂ work₂ literals₂ rows₂)
           → d.said ≡ e.said → (h ≡ k) × (x ≡ y) × (store₁ ≡ store₂) × (literals₁ ≡ literals₂) × (rows₁ ≡ rows₂)
@@ -120,7 +120,7 @@ module _ (old : Header) (s store work work' literals rows : List ℕ)
             d.leaves.3 ∙ sym e.leaves.3,
           )
 
-      go : RefusedOrNot (OpenRefusal old s store work literals rows)
+      go : RefusedOrNot (OpenRefusal s store work literals rows)
           → (h ≡ k) × (x ≡ y) × (store₁ ≡ store₂) × (literals₁ ≡ literals₂) × (rows₁ ≡ rows₂)
       go (inl w) =
           let a = p.refused w.0 w.1 in

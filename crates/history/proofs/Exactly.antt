@@ -2,7 +2,8 @@
 --   unsatisfiable_exactly    open, where nothing is refused: no assignment satisfies the constraints of the sheet
 --   opened_exactly           open, where nothing is refused: some assignment does
 --   open_lists, fail_ascends   the literals listed are the implied ones; the row numbers of a contradiction ascend
---   held_exactly ..          assume, on a state that the module made: every assignment that satisfies constraints and assumptions has the literal; none has; some have and some have not
+--   held_exactly, conflict_exactly, taken_exactly   assume, on a state that the module made: every assignment that satisfies constraints
+--                            and assumptions has the literal; none has; some have and some have not
 --   taken_lists              the literals listed are the newly implied ones
 --   unexplained_exactly      explain, on such a state, is refused with 10: the variable has no value, or its value was assumed
 --   explain_ascends          the row numbers of an explanation ascend
@@ -37,7 +38,7 @@ use Rattle.history.proofs.Demand.{some_one, none_some}
 use Rattle.history.proofs.Determined.{OpenRefusal, AssumeRefusal, ExplainRefusal}
 
 -- ---- open
-module _ (old : Header) (s store work literals rows : List ℕ) (z : OpenRefusal old s store work literals rows ≡ 0)
+module _ (old : Header) (s store work literals rows : List ℕ) (z : OpenRefusal s store work literals rows ≡ 0)
     (h : Header) (answer : Result Opening Refusal) (store' work' literals' rows' : List ℕ)
     (p : OpenPromise old s store work literals rows h answer store' work' literals' rows') where
   -- the sheet's constraints, with nothing taken

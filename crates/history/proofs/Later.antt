@@ -20,6 +20,7 @@ use Rattle.gf2.proofs.Unique.{assume_unique}
 use Rattle.gf2.proofs.Reach.{reached_solution}
 use Rattle.format.specs.Refusals.{refusal}
 use Rattle.format.specs.declared.Refusal.{Refusal}
+use Rattle.format.proofs.Answering.{RefusedOrNot, refused_or}
 use Rattle.judge.specs.declared.Header.{Header}
 use Rattle.judge.specs.Checks.{back_checks}
 use Rattle.parity.specs.declared.Opening.{Opening}
@@ -28,12 +29,12 @@ use Rattle.parity.specs.declared.Explained.{Explained}
 use Rattle.parity.specs.Promises.{Stands, Worked, OpenPromise, AssumePromise, BackPromise, ExplainPromise}
 use Rattle.history.specs.Calls.{open_event, Matches}
 use Rattle.history.proofs.Memory.{long}
-use Rattle.history.proofs.Demand.{RefusedOrNot, refused_or, open_done}
+use Rattle.history.proofs.Demand.{open_done}
 use Rattle.history.proofs.Determined.{OpenRefusal, open_keeps, open_both, back_keeps, AssumeRefusal, assume_keeps, assume_both, ExplainRefusal, ExplainSame, explain_both}
 
 -- ---- open
 module _ (old : Header) (s store work work' literals rows : List ℕ) (enough : 4096 ≤ length work) (enough' : 4096 ≤ length work') where
-  same_open : OpenRefusal old s store work' literals rows ≡ OpenRefusal old s store work literals rows
+  same_open : OpenRefusal s store work' literals rows ≡ OpenRefusal s store work literals rows
   same_open = rw (le-ltb (length work) 4096 enough, le-ltb (length work') 4096 enough') refl
 
   pub open_later : (h k : Header) (x y : Result Opening Refusal) (store₁ store₂ work₁ work₂ literals₁ literals₂ rows₁ rows₂ : List ℕ)
@@ -48,14 +49,14 @@ module _ (old : Header) (s store work work' literals rows : List ℕ) (enough : 
     e.4,
     open_keeps old s store work literals rows h x store₁ work₁ literals₁ rows₁ a,
     open_keeps old s store work' literals rows k y store₂ work₂ literals₂ rows₂ b,
-    λ s₀ m m'. match s₀ m m' (refused_or (OpenRefusal old s store work literals rows)),
+    λ s₀ m m'. match s₀ m m' (refused_or (OpenRefusal s store work literals rows)),
   )
     where
       e : (h ≡ k) × (x ≡ y) × (store₁ ≡ store₂) × (literals₁ ≡ literals₂) × (rows₁ ≡ rows₂)
       e = open_both old s store work work' literals rows same_open h k x y store₁ store₂ work₁ work₂ literals₁ literals₂ rows₁ rows₂ a b
 
       match : (s₀ : Option Position) → Matches old work s₀ → Matches old work' s₀
-          → RefusedOrNot (OpenRefusal old s store work literals rows)
+          → RefusedOrNot (OpenRefusal s store work literals rows)
           → (s₁ : Option Position) × Matches h work₁ s₁ × Matches k work₂ s₁
       match s₀ m m' (inl w) =
           let f = a.refused w.0 w.1 in

@@ -1,5 +1,6 @@
 -- A STATE IN A MEMORY whose front is lent.
 --   front_stands   a state is its header and its first 4,096 words; front_matches: so is what is open, or nothing
+--   long           a state has at least 4,096 words
 --   lent_matches   where enough words are lent, the state stands in them
 --   behind         what a call left matches with the words behind it
 --   unchanged      a call that changed nothing of what it was lent left the memory as it was
@@ -25,7 +26,6 @@ pub front_matches : (h : Header) (mem mem' : List ℕ) (s : Option Position) →
 front_matches h mem mem' none e m = m
 front_matches h mem mem' (some p) e m = front_stands e m
 
--- a state has enough words
 pub long : {h : Header} {work : List ℕ} {p : Position} → Stands h work p → size ≤ length work
 long {work = work} st = let l = st.made.room in let e = length-take size work in omega arith
 

@@ -26,6 +26,7 @@ use Rattle.gf2.proofs.Literals.{same_literal, negation_variable, not_has}
 use Rattle.gf2.proofs.Reach.{reached_solution}
 use Rattle.format.specs.Refusals.{refusal, IsRefused}
 use Rattle.format.specs.declared.Refusal.{Refusal}
+use Rattle.format.proofs.Answering.{RefusedOrNot, refused_or}
 use Rattle.judge.specs.declared.Header.{Header}
 use Rattle.judge.specs.Checks.{Fit, assume_checks, back_checks}
 use Rattle.judge.proofs.LineEleven.{is_fit}
@@ -35,7 +36,6 @@ use Rattle.parity.specs.declared.Assuming.TheVariants.{Conflict}
 use Rattle.parity.specs.declared.Explained.{Explained}
 use Rattle.parity.specs.Promises.{Stands, AssumePromise, ExplainPromise, ExplainLeaves}
 use Rattle.history.proofs.Memory.{front_stands}
-use Rattle.history.proofs.Demand.{RefusedOrNot, refused_or}
 use Rattle.history.proofs.Determined.{AssumeRefusal, ExplainRefusal}
 use Rattle.history.proofs.Exactly.{conflict_exactly, unexplained_exactly}
 use Rattle.history.proofs.Accepted.{assume_accepted, explain_accepted}

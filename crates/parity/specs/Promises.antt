@@ -6,7 +6,8 @@
 --   Worked old new               the working buffer keeps its length, and what it had past its first 4,096 words
 --   OpenLeaves, AssumeLeaves, ExplainLeaves    what an answer that the checks let through leaves, on every state
 --   OpenDone, AssumeRight, ExplainRight        which answer is right: for a sheet, and on a state that the module made
---   OpenPromise, AssumePromise, BackPromise, ExplainPromise   the promises: a refusal changes nothing; any other answer is safe on every state, and right on a state that the module made
+--   OpenPromise, AssumePromise, BackPromise, ExplainPromise   the promises: a refusal changes nothing;
+--                                any other answer is safe on every state, and right on a state that the module made
 -- Assumes nothing.
 use Rattle.std.specs.Prelude.{◌≡◌, Bool, ◌||◌, List, [], ◌∷◌, ◌++◌, length, take, drop, ltb, ℕ, suc, ◌+◌, ◌*◌, ◌<◌, ◌≤◌, Result, Ok, Err}
 use Rattle.std.proofs.Math.Option.{some}

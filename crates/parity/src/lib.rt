@@ -45,7 +45,7 @@ pub struct Reply<A> {
 }
 
 impl<A> Reply<A> {
-    // The call is done.
+    // Replies that the call is done, with its answer.
     fn done(header: Header, answer: A) -> Reply<A>
         ensures { (result.header ≡ header) × (result.answer ≡ Ok answer) }
     {
@@ -55,7 +55,7 @@ impl<A> Reply<A> {
         }
     }
 
-    // The call is refused.
+    // Replies that the call is refused.
     fn refused(header: Header, why: Refusal) -> Reply<A>
         ensures { (result.header ≡ header) × (result.answer ≡ Err why) }
     {
@@ -66,7 +66,7 @@ impl<A> Reply<A> {
     }
 }
 
-// The checks of open, in order.
+// Judges what open is lent, by the checks of open in their order.
 fn judge_open(
     s: &[u8],
     store: usize,
@@ -86,7 +86,7 @@ fn judge_open(
     Ok(shape)
 }
 
-// The rows of the store go into the working buffer, and the list of the answer is made.
+// Takes the rows of the store into the working buffer, and lists what the answer counts.
 fn open_all(
     shape: Shape,
     store: &[u64],
@@ -116,7 +116,7 @@ fn open_all(
     }
 }
 
-// A sheet is opened. Everything is judged before anything is written.
+// Opens a sheet. Judges everything before it writes anything.
 pub fn open(
     old: Header,
     s: &[u8],
@@ -136,7 +136,7 @@ pub fn open(
     }
 }
 
-// A literal is assumed.
+// Assumes a literal.
 pub fn assume(h: Header, work: &mut [u64], literals: &mut [u64], code: usize) -> Reply<Assuming>
     ensures { AssumePromise h work.old literals.old code result.header result.answer work.new literals.new }
 {
@@ -158,7 +158,7 @@ pub fn assume(h: Header, work: &mut [u64], literals: &mut [u64], code: usize) ->
     }
 }
 
-// Back to a depth: the first taken literals are kept, and the values are made anew from them.
+// Goes back to a depth: keeps the first taken literals, and makes the values anew from them.
 pub fn back_core(h: Header, work: &mut [u64], depth: usize) -> Reply<()>
     ensures { BackPromise h work.old depth (answered result.answer) result.header work.new }
 {
@@ -169,7 +169,7 @@ pub fn back_core(h: Header, work: &mut [u64], depth: usize) -> Reply<()>
     Reply::done(Header { depth, ..h }, ())
 }
 
-// The value of a variable is explained.
+// Explains the value of a variable.
 pub fn explain(
     h: Header,
     work: &[u64],

@@ -23,7 +23,7 @@ pub struct Row {
 
 // ---- reading
 
-// The row at the cursor: n coefficients and a parity bit.
+// Reads the row at the cursor: n coefficients and a parity bit.
 fn row_at(at: Cursor, s: &[u8], shape: Shape) -> Row
     requires { (at.at + (shape.n + 1) ≤ 8 * length s.now) × (at.at < 2 ^ 31) }
     ensures { (result.words ++ (result.parity ∷ []) ≡ row_words shape.n (drop at.at (bits_of s.now))) × (result.next.at ≡ at.at + (shape.n + 1)) }
@@ -59,7 +59,7 @@ fn keep(store: &mut [u64], base: usize, row: Row)
     store[base + 8] = row.parity;
 }
 
-// What is to be said of a sheet, with room for so many words.
+// Judges a sheet, with room for so many words.
 pub fn judge(s: &[u8], room: usize) -> Result<Shape, Refusal>
     ensures { IsReading s.now room result }
 {
@@ -183,7 +183,7 @@ fn clean_rows(store: &[u64], shape: Shape) -> bool
     true
 }
 
-// What is to be said of n, m and the store, with room for so many bytes: the shape of the sheet.
+// Judges n, m and the store, with room for so many bytes: gives the shape of the sheet.
 fn judge_write(n: usize, m: usize, store: &[u64], room: usize) -> Result<Shape, Refusal>
     ensures { Answers (refusal (writer n m store.now room)) (HasNumbers n m) result }
 {
