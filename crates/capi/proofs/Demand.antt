@@ -14,7 +14,7 @@ use borrow.Author.Tests.{ne_eqb}
 use Rattle.std.specs.Prelude.{Result, Ok, Err}
 use Rattle.gf2.specs.Rows.{Rows}
 use Rattle.gf2.specs.Answers.{Position, OpenAnswer}
-use Rattle.gf2.specs.History.{Event, opens, Runs, at_end}
+use Rattle.gf2.specs.History.{Event, opens, refused, Runs, at_end}
 use Rattle.format.specs.Refusals.{number}
 use Rattle.format.specs.declared.Refusal.{Refusal}
 use Rattle.format.proofs.Answering.{number_within}
@@ -26,13 +26,13 @@ use Rattle.parity.specs.declared.Assuming.TheVariants.{Held, Conflict, Taken}
 use Rattle.parity.specs.declared.Explained.{Explained}
 use Rattle.parity.specs.Promises.{Stands, OpenPromise, AssumePromise}
 use Rattle.history.specs.Calls as calls
-use Rattle.history.specs.Calls.{Called, open_event, assume_event, explain_event, event, Calls, done, then, copied, events, Matches, Counted}
+use Rattle.history.specs.Calls.{Called, open_event, assume_event, explain_event, event, Calls, done, then, aside, copied, events, Matches, Counted}
 use Rattle.history.proofs.Demand.{demand, demand_opened, demand_stands, demand_counted}
 use Rattle.capi.specs.declared.OpenNumbers.{OpenNumbers}
 use Rattle.capi.specs.declared.AssumeNumbers.{AssumeNumbers}
 use Rattle.capi.specs.declared.ExplainNumbers.{ExplainNumbers}
 use Rattle.capi.specs.Exports.{open_numbers, assume_numbers, explain_numbers}
-use Rattle.capi.specs.FromC.{open_read, assume_read, explain_read, Exported, opening, assuming, backing, explaining, exported_event, exported_events}
+use Rattle.capi.specs.FromC.{open_read, assume_read, explain_read, Exported, opening, assuming, backing, explaining, exported_event, ExportedCalls}
 
 abbrev pub exported_called : {h h' : Header} {work work' : List ℕ} → Exported h work h' work' → Called h work h' work'
 exported_called {h} {h'} {work} {work'} (opening s store literals rows store' literals' rows' r x) =
@@ -85,30 +85,32 @@ called_event (backing depth number x) = refl
 called_event (explaining v clause rows clause' rows' r x) = explain_reads v r x.answer clause' rows' x.numbers
 
 -- ---- any calls
-abbrev pub all_called : {h h' : Header} {mem mem' : List ℕ} → Calls Exported h mem h' mem' → Calls Called h mem h' mem'
+abbrev pub all_called : {h h' : Header} {mem mem' : List ℕ} → ExportedCalls h mem h' mem' → Calls h mem h' mem'
 all_called done = done
 all_called (then words c cs) = then words (exported_called c) (all_called cs)
+all_called (aside number c e cs) = aside number (exported_called c) (sym (called_event c) ∙ e) (all_called cs)
 all_called (copied same cs) = copied same (all_called cs)
 
-pub called_events : {h h' : Header} {mem mem' : List ℕ} (cs : Calls Exported h mem h' mem') → exported_events cs ≡ events (all_called cs)
+pub called_events : {h h' : Header} {mem mem' : List ℕ} (cs : ExportedCalls h mem h' mem') → events cs ≡ events (all_called cs)
 called_events done = refl
 called_events (then words c cs) = ap₂ ◌∷◌ (called_event c) (called_events cs)
+called_events (aside number c e cs) = ap (λ (es : List Event). refused number ∷ es) (called_events cs)
 called_events (copied same cs) = called_events cs
 
-pub exported_demand : (s : Option Position) {h h' : Header} {mem mem' : List ℕ} → Matches h mem s → (cs : Calls Exported h mem h' mem')
-    → Runs s (exported_events cs) × Matches h' mem' (at_end s (exported_events cs))
+pub exported_demand : (s : Option Position) {h h' : Header} {mem mem' : List ℕ} → Matches h mem s → (cs : ExportedCalls h mem h' mem')
+    → Runs s (events cs) × Matches h' mem' (at_end s (events cs))
 exported_demand s {h' = h'} {mem' = mem'} m cs = subst (λ (es : List Event). Runs s es × Matches h' mem' (at_end s es)) (sym (called_events cs)) (demand s m (all_called cs))
 
-pub exported_opened : {h h' : Header} {mem mem' : List ℕ} (cs : Calls Exported h mem h' mem')
+pub exported_opened : {h h' : Header} {mem mem' : List ℕ} (cs : ExportedCalls h mem h' mem')
     (before later : List Event) (n : ℕ) (rows : Rows) (answer : OpenAnswer)
-    → exported_events cs ≡ before ++ (opens n rows answer ∷ later)
+    → events cs ≡ before ++ (opens n rows answer ∷ later)
     → Runs none (opens n rows answer ∷ later) × Matches h' mem' (at_end none (opens n rows answer ∷ later))
 exported_opened cs before later n rows answer e = demand_opened (all_called cs) before later n rows answer (sym (called_events cs) ∙ e)
 
-pub exported_stands : {h h' : Header} {mem mem' : List ℕ} (cs : Calls Exported h mem h' mem') (p : Position)
-    → at_end none (exported_events cs) ≡ some p → Stands h' mem' p
+pub exported_stands : {h h' : Header} {mem mem' : List ℕ} (cs : ExportedCalls h mem h' mem') (p : Position)
+    → at_end none (events cs) ≡ some p → Stands h' mem' p
 exported_stands cs p e = demand_stands (all_called cs) p (ap (at_end none) (sym (called_events cs)) ∙ e)
 
-pub exported_counted : {h h' : Header} {mem mem' : List ℕ} (cs : Calls Exported h mem h' mem') (p : Position)
-    → at_end none (exported_events cs) ≡ some p → Counted h' p
+pub exported_counted : {h h' : Header} {mem mem' : List ℕ} (cs : ExportedCalls h mem h' mem') (p : Position)
+    → at_end none (events cs) ≡ some p → Counted h' p
 exported_counted cs p e = demand_counted (all_called cs) p (ap (at_end none) (sym (called_events cs)) ∙ e)

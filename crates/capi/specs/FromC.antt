@@ -3,7 +3,7 @@
 --                              Explain's 10 and assume's 12 stand by themselves, and any other number is a refusal's
 --   Exported h work h' work'   one call of an export took the state (h, work) to (h', work'), and its promise holds; h' is the header that C gets
 --   exported_event             its event; of back, which answers a plain number, it is history's
---   exported_events            the events of any list of such calls, in order: a Calls Exported, so each is lent as many words of one memory as C says
+--   ExportedCalls              any list of such calls on one memory, as history's Calls; `events` of history are its events
 -- Assumes nothing.
 use Rattle.std.specs.Prelude.{cond, List, take, eqb, ℕ}
 use Rattle.gf2.specs.Answers.{unsatisfiable, opened, held, conflict, implied}
@@ -11,7 +11,7 @@ use Rattle.gf2.specs.History.{Event, opens, assumes, explains, unexplained, stuc
 use Rattle.format.specs.Sheet.{n_of, sheet_rows}
 use Rattle.judge.specs.declared.Header.{Header}
 use Rattle.parity.specs.Promises.{BackPromise}
-use Rattle.history.specs.Calls.{back_event, Calls, events_by}
+use Rattle.history.specs.Calls.{back_event, CallsBy}
 use Rattle.capi.specs.declared.OpenNumbers.{OpenNumbers}
 use Rattle.capi.specs.declared.AssumeNumbers.{AssumeNumbers}
 use Rattle.capi.specs.declared.ExplainNumbers.{ExplainNumbers}
@@ -52,5 +52,5 @@ exported_event (assuming code literals literals' r promise) = assume_read code r
 exported_event (backing depth number promise) = back_event depth number
 exported_event (explaining v clause rows clause' rows' r promise) = explain_read v r clause' rows'
 
-abbrev pub exported_events : {h h' : Header} {mem mem' : List ℕ} → Calls Exported h mem h' mem' → List Event
-exported_events cs = events_by (λ h work h' work' c. exported_event c) cs
+abbrev pub ExportedCalls : Header → List ℕ → Header → List ℕ → Type 0
+ExportedCalls h mem h' mem' = CallsBy Exported (λ h work h' work' c. exported_event c) h mem h' mem'

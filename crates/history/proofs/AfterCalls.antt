@@ -24,13 +24,13 @@ use Rattle.parity.specs.declared.Assuming.{Assuming}
 use Rattle.parity.specs.declared.Assuming.TheVariants.{Held, Conflict, Taken}
 use Rattle.parity.specs.declared.Explained.{Explained}
 use Rattle.parity.specs.Promises.{Stands, AssumePromise, BackPromise, ExplainPromise}
-use Rattle.history.specs.Calls.{Called, Calls, events}
+use Rattle.history.specs.Calls.{Calls, events}
 use Rattle.history.proofs.Memory.{long, lent_matches}
 use Rattle.history.proofs.Demand.{demand_stands}
 use Rattle.history.proofs.Exactly.{held_exactly, conflict_exactly, taken_exactly, unexplained_exactly}
 use Rattle.history.proofs.Accepted.{assume_accepted, back_accepted, explain_accepted}
 
-module _ {h₀ h : Header} {mem₀ mem : List ℕ} (cs : Calls Called h₀ mem₀ h mem) (p : Position) (e : at_end none (events cs) ≡ some p)
+module _ {h₀ h : Header} {mem₀ mem : List ℕ} (cs : Calls h₀ mem₀ h mem) (p : Position) (e : at_end none (events cs) ≡ some p)
     (words : ℕ) (enough : size ≤ words) where
   abbrev lent : List ℕ
   lent = take words mem

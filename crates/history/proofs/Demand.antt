@@ -26,11 +26,11 @@ use Rattle.gf2.proofs.Parts.{cons_not_nil}
 use Rattle.gf2.proofs.Unique.{kept_unique}
 use Rattle.gf2.proofs.Chosen.{placed_length}
 use Rattle.std.specs.Prelude.{Result, Ok, Err}
-use Rattle.format.specs.Refusals.{Check, refusal, number, IsRefused}
+use Rattle.format.specs.Refusals.{refusal, number, IsRefused}
 use Rattle.format.specs.declared.Refusal.{Refusal}
 pub use Rattle.format.proofs.Answering.{RefusedOrNot, refused_or, refused_is}
 use Rattle.format.specs.Sheet.{n_of, sheet_rows}
-use Rattle.format.proofs.Refusing.{without, never}
+use Rattle.format.proofs.Refusing.{never}
 use Rattle.linear.proofs.Joined.{codes_length}
 use Rattle.linear.proofs.Taking.{kept_length}
 use Rattle.linear.proofs.Explaining.{made_kept}
@@ -44,7 +44,8 @@ use Rattle.parity.specs.declared.Assuming.{Assuming}
 use Rattle.parity.specs.declared.Assuming.TheVariants.{Held, Conflict, Taken}
 use Rattle.parity.specs.declared.Explained.{Explained}
 use Rattle.parity.specs.Promises.{Stands, nothing_open, OpenPromise, OpenDone, open_checks, AssumePromise, AssumeRight, BackPromise, ExplainPromise, ExplainLeaves, ExplainRight}
-use Rattle.history.specs.Calls.{Called, opening, assuming, backing, explaining, open_event, assume_event, back_event, explain_event, event, Calls, done, then, copied, events, Matches, Counted}
+use Rattle.history.specs.Calls.{Called, opening, assuming, backing, explaining, open_event, assume_event, back_event, explain_event, event, Calls, done, then, aside, copied, events, Matches, Counted}
+use Rattle.history.proofs.Aside.{refused_right, refused_aside}
 use Rattle.history.proofs.Memory.{front_matches, lent_matches, behind, unchanged}
 
 -- ---- what is needed of answers and checks
@@ -56,13 +57,6 @@ none_some x e = cc
 
 literal_of : (h : Header) (words room code : ℕ) → refusal (assume_checks h words room code) ≡ 0 → Literal h.n code
 literal_of h words room code e = let j = assume_judged h words room code e in of_range h.n code j.3 (let hi = j.4 in omega arith)
-
--- where something is open, line 11 does not hold
-refused_right : (s : Option Position) (h : Header) (mem : List ℕ) → Matches h mem s
-    → (cs : List Check) → without 10 cs ≡ true → without 12 cs ≡ true → (Fit h → without 11 cs ≡ true)
-    → (c : ℕ) → refusal cs ≡ suc c → Right s (refused (suc c))
-refused_right none h mem m cs ten twelve eleven c e = (never 10 cs ten c e, never 12 cs twelve c e)
-refused_right (some q) h mem m cs ten twelve eleven c e = (never 10 cs ten c e, never 11 cs (eleven m.fit) c e, never 12 cs twelve c e)
 
 -- ---- open
 pub open_done : (s₀ : Option Position) (s store work literals rows store' literals' rows' : List ℕ)
@@ -196,13 +190,17 @@ called_step s {h} {h'} mem part words m (backing depth number p) = back_step s h
 called_step s {h} {h'} mem part words m (explaining v clause rows clause' rows' answer p) = explain_step s h mem words v clause rows clause' rows' answer m p
 
 -- DEMAND 3
-pub demand : (s : Option Position) {h h' : Header} {mem mem' : List ℕ} → Matches h mem s → (cs : Calls Called h mem h' mem')
+pub demand : (s : Option Position) {h h' : Header} {mem mem' : List ℕ} → Matches h mem s → (cs : Calls h mem h' mem')
     → Runs s (events cs) × Matches h' mem' (at_end s (events cs))
 demand s m done = (tt, m)
 demand s {mem = mem} m (then {part = part} words c cs) =
     let e = called_step s mem part words m c in
     let f = demand (after s (event c)) e.1 cs in
     ((e.0, f.0), f.1)
+demand s {h} {mem = mem} m (aside {h' = h'} number c e cs) =
+    let r = refused_aside s mem m c number e in
+    let f = demand s (subst (λ (k : Header). Matches k mem s) (sym r.1) m) cs in
+    ((r.0, f.0), f.1)
 demand s {h} {mem = mem} m (copied {mem' = mem'} same cs) = demand s (front_matches h mem mem' s same m) cs
 
 -- ---- from an opening on, whatever was there before
@@ -252,14 +250,14 @@ opening_step s (explaining v clause rows clause' rows' answer p) f = absurd (go 
     go (Ok x) e = false≢true e
 
 after_opening : {h h' h'' : Header} (mem part mem'' : List ℕ) (words : ℕ) (c : Called h (take words mem) h' part)
-    (cs : Calls Called h' (part ++ drop words mem) h'' mem'') → is_opening (event c) ≡ true
+    (cs : Calls h' (part ++ drop words mem) h'' mem'') → is_opening (event c) ≡ true
     → Runs none (event c ∷ events cs) × Matches h'' mem'' (at_end none (event c ∷ events cs))
 after_opening {h' = h'} mem part mem'' words c cs f =
     let e = opening_step none c f in
     let g = demand (after none (event c)) (behind h' part (drop words mem) (after none (event c)) e.1) cs in
     ((e.0, g.0), g.1)
 
-pub demand_opened : {h h' : Header} {mem mem' : List ℕ} (cs : Calls Called h mem h' mem')
+pub demand_opened : {h h' : Header} {mem mem' : List ℕ} (cs : Calls h mem h' mem')
     (before later : List Event) (n : ℕ) (rows : Rows) (answer : OpenAnswer)
     → events cs ≡ before ++ (opens n rows answer ∷ later)
     → Runs none (opens n rows answer ∷ later) × Matches h' mem' (at_end none (opens n rows answer ∷ later))
@@ -268,6 +266,11 @@ demand_opened done (b ∷ before) later n rows answer e = absurd (cons_not_nil _
 demand_opened {h' = h'} {mem = mem} {mem' = mem'} (then {part = part} words c cs) [] later n rows answer e =
     subst (λ (es : List Event). Runs none es × Matches h' mem' (at_end none es)) e (after_opening mem part mem' words c cs (ap begins_opening e))
 demand_opened (then words c cs) (b ∷ before) later n rows answer e = demand_opened cs before later n rows answer (ap later_events e)
+demand_opened (aside number c f cs) [] later n rows answer e = absurd (not_opening e)
+  where
+    not_opening : refused number ∷ events cs ≡ opens n rows answer ∷ later → ⊥
+    not_opening g = false≢true (ap begins_opening g)
+demand_opened (aside number c f cs) (b ∷ before) later n rows answer e = demand_opened cs before later n rows answer (ap later_events e)
 demand_opened (copied same cs) before later n rows answer e = demand_opened cs before later n rows answer e
 
 -- only an opening opens something where nothing is
@@ -275,13 +278,14 @@ nothing_after : (e : Event) → is_opening e ≡ false → after none e ≡ none
 nothing_after (opens n rows answer) f = absurd (true≢false f)
 nothing_after e f = refl
 
-pub demand_stands : {h h' : Header} {mem mem' : List ℕ} (cs : Calls Called h mem h' mem') (p : Position) → at_end none (events cs) ≡ some p → Stands h' mem' p
+pub demand_stands : {h h' : Header} {mem mem' : List ℕ} (cs : Calls h mem h' mem') (p : Position) → at_end none (events cs) ≡ some p → Stands h' mem' p
 demand_stands done p e = absurd (none_some p e)
 demand_stands {h' = h'} {mem = mem} {mem' = mem'} (then {part = part} words c cs) p e = go (λ f. demand_stands cs p f) (is_opening (event c)) refl
   where
     go : (at_end none (events cs) ≡ some p → Stands h' mem' p) → (b : Bool) → is_opening (event c) ≡ b → Stands h' mem' p
     go rest true f = subst (Matches h' mem') e (after_opening mem part mem' words c cs f).1
     go rest false f = rest (subst (λ (s : Option Position). at_end s (events cs) ≡ some p) (nothing_after (event c) f) e)
+demand_stands (aside number c f cs) p e = demand_stands cs p e
 demand_stands (copied same cs) p e = demand_stands cs p e
 
 -- ---- the numbers of a header
@@ -297,5 +301,5 @@ counted h work p st =
           s.made.built.count ∙ sym (kept_length h.m st.Sheet st.kept) ∙ ap length (kept_unique _ _ _ ks own (rw st.here at k));
     }
 
-pub demand_counted : {h h' : Header} {mem mem' : List ℕ} (cs : Calls Called h mem h' mem') (p : Position) → at_end none (events cs) ≡ some p → Counted h' p
+pub demand_counted : {h h' : Header} {mem mem' : List ℕ} (cs : Calls h mem h' mem') (p : Position) → at_end none (events cs) ≡ some p → Counted h' p
 demand_counted {h' = h'} {mem' = mem'} cs p e = counted h' mem' p (demand_stands cs p e)

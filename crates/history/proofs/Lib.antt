@@ -6,3 +6,4 @@ pub mod Exactly
 pub mod Accepted
 pub mod AfterCalls
 pub mod Sentences
+pub mod Aside

@@ -1,10 +1,12 @@
 -- CALLS ON ONE STATE, known by their promises alone, and the events of the definitions that they are.
 --   Called h work h' work'   one call of open, assume, back or explain took the state (h, work) to (h', work'), and its promise holds
 --   event                    the call with its answer, as demand 3 reads it; open_event, assume_event, back_event, explain_event: of each kind of call
---   Calls Call h mem h' mem' any list of calls, one after another, on one memory. Each is lent the front of it, as many words as its caller says
---                            (they may be too few), and the words behind those stay. Between two calls the memory may be replaced by another one
---                            with the same first 4,096 words: a state may be copied. Call says what one call is: Called, or in capi a call of an export
---   events                   the events of a list of calls, in order; events_by: of calls of any kind, given the event of one
+--   Calls h mem h' mem'      any list of calls, one after another, on one memory:
+--     then                   a call is lent the front of it, as many words as its caller says (they may be too few), and the words behind those stay;
+--     aside                  a refused call may have been lent any other buffer;
+--     copied                 between two calls the memory may be replaced by another one with the same first 4,096 words: a state may be copied
+--   CallsBy                  such a list of calls of any kind, given the event of one: of Called, or in capi of the exports
+--   events                   the events of a list of calls, in order
 --   Matches h mem s          the state is one that the module made for what is open; where nothing is, the header is not open
 --   Counted h p              the numbers of the header are those of the position: its variables, its rows, its taken literals, its kept rows
 -- Assumes nothing.
@@ -64,22 +66,26 @@ event (assuming code literals literals' answer promise) = assume_event code answ
 event (backing depth number promise) = back_event depth number
 event (explaining v clause rows clause' rows' answer promise) = explain_event v answer clause' rows'
 
-pub data Calls (Call : Header → List ℕ → Header → List ℕ → Type 0) : Header → List ℕ → Header → List ℕ → Type 0 where
-  done : {h : Header} {mem : List ℕ} → Calls Call h mem h mem
+pub data CallsBy (Call : Header → List ℕ → Header → List ℕ → Type 0)
+    (event_of : (h : Header) (work : List ℕ) (h' : Header) (work' : List ℕ) → Call h work h' work' → Event) : Header → List ℕ → Header → List ℕ → Type 0 where
+  done : {h : Header} {mem : List ℕ} → CallsBy Call event_of h mem h mem
   then : {h h' h'' : Header} {mem part mem'' : List ℕ} (words : ℕ)
-      → Call h (take words mem) h' part → Calls Call h' (part ++ drop words mem) h'' mem'' → Calls Call h mem h'' mem''
+      → Call h (take words mem) h' part → CallsBy Call event_of h' (part ++ drop words mem) h'' mem'' → CallsBy Call event_of h mem h'' mem''
+  aside : {h h' h'' : Header} {mem mem'' other other' : List ℕ} (number : ℕ) (c : Call h other h' other')
+      → event_of h other h' other' c ≡ refused number → CallsBy Call event_of h' mem h'' mem'' → CallsBy Call event_of h mem h'' mem''
   copied : {h h'' : Header} {mem mem' mem'' : List ℕ}
-      → take size mem ≡ take size mem' → Calls Call h mem' h'' mem'' → Calls Call h mem h'' mem''
+      → take size mem ≡ take size mem' → CallsBy Call event_of h mem' h'' mem'' → CallsBy Call event_of h mem h'' mem''
 
 module _ {Call : Header → List ℕ → Header → List ℕ → Type 0}
-    (event_of : (h : Header) (work : List ℕ) (h' : Header) (work' : List ℕ) → Call h work h' work' → Event) where
-  abbrev pub events_by : {h h' : Header} {mem mem' : List ℕ} → Calls Call h mem h' mem' → List Event
-  events_by done = []
-  events_by (then words c cs) = event_of _ _ _ _ c ∷ events_by cs
-  events_by (copied same cs) = events_by cs
+    {event_of : (h : Header) (work : List ℕ) (h' : Header) (work' : List ℕ) → Call h work h' work' → Event} where
+  abbrev pub events : {h h' : Header} {mem mem' : List ℕ} → CallsBy Call event_of h mem h' mem' → List Event
+  events done = []
+  events (then words c cs) = event_of _ _ _ _ c ∷ events cs
+  events (aside number c e cs) = refused number ∷ events cs
+  events (copied same cs) = events cs
 
-abbrev pub events : {h h' : Header} {mem mem' : List ℕ} → Calls Called h mem h' mem' → List Event
-events cs = events_by (λ h work h' work' c. event c) cs
+abbrev pub Calls : Header → List ℕ → Header → List ℕ → Type 0
+Calls h mem h' mem' = CallsBy Called (λ h work h' work' c. event c) h mem h' mem'
 
 abbrev pub Matches : Header → List ℕ → Option Position → Type 0
 Matches h mem none = h.«open» ≡ 1 → ⊥
