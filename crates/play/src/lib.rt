@@ -14,6 +14,16 @@ use judge::Header;
 use std::io;
 use std::io::{Read, Write};
 
+// The most variables, and the most rows.
+const MAX_VARS: usize = 512;
+const MAX_ROWS: usize = 256;
+// Words of a row store that has room for the rows of every sheet.
+const STORE_WORDS: usize = 9 * MAX_ROWS;
+// Bytes of a page.
+const PAGE: usize = 65536;
+// So many bytes of the input count.
+const MOST_BYTES: usize = 65536;
+
 // How far a session has come: where its commands go on, the header there, where the text of the page ends, and whether more may follow.
 #[derive(Clone, Copy)]
 struct Played {
@@ -23,7 +33,7 @@ struct Played {
     more: bool,
 }
 
-// The opening, on the sheet at the start of the input; its line is the first page.
+// Opens the sheet at the start of the input, and puts its line into the page as the first.
 fn start(
     s: &[u8],
     store: &mut [u64],
@@ -45,7 +55,7 @@ fn start(
     }
 }
 
-// A command, whose line stands in the page from place `at` on.
+// Carries out a command, and puts its line into the page from place `at` on.
 fn append(
     h: Header,
     work: &mut [u64],
@@ -73,7 +83,7 @@ fn append(
     }
 }
 
-// The commands from `first` on, until the session is over or the page may have no room for the next line.
+// Carries out the commands from `first` on, until the session is over or the page may have no room for the next line.
 fn play(
     s: &[u8],
     first: usize,
@@ -119,11 +129,11 @@ fn play(
 fn speak<W: Write>(s: &[u8], out: &mut W) -> io::Result<()>
     ensures { OnOk result (Spoken s.now (W.contents out.old) (W.contents out.new)) }
 {
-    let mut store = [0u64; 2304];
+    let mut store = [0u64; STORE_WORDS];
     let mut work = [0u64; tableau::SIZE];
-    let mut literals = [0u64; 512];
-    let mut rows = [0u64; 256];
-    let mut page = [0u8; 65536];
+    let mut literals = [0u64; MAX_VARS];
+    let mut rows = [0u64; MAX_ROWS];
+    let mut page = [0u8; PAGE];
     let mut played = start(
         s,
         &mut store,
@@ -148,7 +158,7 @@ fn speak<W: Write>(s: &[u8], out: &mut W) -> io::Result<()>
     Ok(())
 }
 
-// Fills the buffer from its front until it is full or the input ends; how many bytes came.
+// Fills the buffer from its front until it is full or the input ends; returns how many bytes came.
 fn filled<R: Read>(input: &mut R, buffer: &mut [u8]) -> io::Result<usize>
     ensures within { IfOk result (λ n. IsPrefixLen n buffer.new) }
     ensures bytes { IfOk result (λ n. IfSome (R.remaining input.old) (λ bytes. take n buffer.new ≡ take (length buffer.new) bytes)) }
@@ -164,11 +174,11 @@ fn filled<R: Read>(input: &mut R, buffer: &mut [u8]) -> io::Result<usize>
     Ok(done)
 }
 
-// The session program: what the session on the first 65,536 bytes of the input says goes to `out`. An error of either is handed on.
+// Writes what the session on the first 65,536 bytes of the input says to `out`; hands on an error of either.
 pub fn session<R: Read, W: Write>(input: &mut R, out: &mut W) -> io::Result<()>
     ensures { OnOk result (IfSome (R.remaining input.old) (λ bytes. Spoken (take most_bytes bytes) (W.contents out.old) (W.contents out.new))) }
 {
-    let mut buffer = [0u8; 65536];
+    let mut buffer = [0u8; MOST_BYTES];
     let n = filled(input, &mut buffer)?;
     speak(&buffer[..n], out)
 }
