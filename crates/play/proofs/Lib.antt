@@ -4,4 +4,4 @@ pub mod Playing
 pub mod Filling
 pub mod Speaking
 pub mod OneText
-pub mod Worked
+pub mod Example

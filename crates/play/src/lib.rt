@@ -6,7 +6,7 @@ ghost use Rattle.io.specs.Counts.{IsPrefixLen};
 ghost use Rattle.gf2.specs.Answers.{Position};
 ghost use Rattle.parity.specs.Promises.{Stands};
 ghost use Rattle.dialogue.specs.Steps.{room};
-ghost use Rattle.play.specs.Session.{most_bytes, SessionOn, Commands};
+ghost use Rattle.play.specs.Session.{SessionOn, Says, Commands};
 ghost use Rattle.play.specs.Pages.{Roomy, Appended, Paged, Spoken};
 
 use dialogue::{ROOM, Step};
@@ -26,7 +26,7 @@ const MOST_BYTES: usize = 65536;
 
 // How far a session has come: where its commands go on, the header there, where the text of the page ends, and whether more may follow.
 #[derive(Clone, Copy)]
-struct Played {
+struct Progress {
     at: usize,
     header: Header,
     end: usize,
@@ -41,13 +41,13 @@ fn start(
     literals: &mut [u64],
     rows: &mut [u64],
     page: &mut [u8],
-) -> Played
+) -> Progress
     requires { (2304 ≤ length store.old) × Roomy work.old literals.old rows.old page.old }
     ensures { Paged (SessionOn s.now) s.now result work.new page.old page.new }
 {
     let at = dialogue::sheet_end(s);
     let Step { header, end, more } = dialogue::begin(&s[..at], store, work, literals, rows, page);
-    Played {
+    Progress {
         at,
         header,
         end,
@@ -92,7 +92,7 @@ fn play(
     literals: &mut [u64],
     rows: &mut [u64],
     page: &mut [u8],
-) -> Played
+) -> Progress
     requires { (first ≤ length s.now) × Roomy work.old literals.old rows.old page.old }
     ensures onward { result.more ≡ true → first < result.at }
     ensures paged { (p : Position) → Stands opened work.old p → Paged (Commands p (drop first s.now)) s.now result work.new page.old page.new }
@@ -116,7 +116,7 @@ fn play(
             break true;
         }
     };
-    Played {
+    Progress {
         at,
         header,
         end,
@@ -127,7 +127,7 @@ fn play(
 // Writes the session on input `s`, page by page. The buffers are large enough for every sheet and every answer: no call is refused
 // with 6 or 7, for `Session` has no such line.
 fn speak<W: Write>(s: &[u8], out: &mut W) -> io::Result<()>
-    ensures { OnOk result (Spoken s.now (W.contents out.old) (W.contents out.new)) }
+    ensures { OnOk result (Spoken (SessionOn s.now) (W.contents out.old) (W.contents out.new)) }
 {
     let mut store = [0u64; STORE_WORDS];
     let mut work = [0u64; tableau::SIZE];
@@ -176,7 +176,7 @@ fn filled<R: Read>(input: &mut R, buffer: &mut [u8]) -> io::Result<usize>
 
 // Writes what the session on the first 65,536 bytes of the input says to `out`; hands on an error of either.
 pub fn session<R: Read, W: Write>(input: &mut R, out: &mut W) -> io::Result<()>
-    ensures { OnOk result (IfSome (R.remaining input.old) (λ bytes. Spoken (take most_bytes bytes) (W.contents out.old) (W.contents out.new))) }
+    ensures { OnOk result (IfSome (R.remaining input.old) (λ bytes. Spoken (Says bytes) (W.contents out.old) (W.contents out.new))) }
 {
     let mut buffer = [0u8; MOST_BYTES];
     let n = filled(input, &mut buffer)?;
