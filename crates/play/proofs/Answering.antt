@@ -17,19 +17,19 @@ use borrow.Author.Tests.{le-ltb}
 use Rattle.std.proofs.lemmas.Bool.{cases_lt}
 use Rattle.std.specs.Prelude.{Result, Ok, Err}
 use Rattle.gf2.specs.Rows.{Var}
-use Rattle.gf2.specs.Answers.{variable, Literal, Position, withdrawn, moved, AssumeAnswer, held, conflict, implied, ExplainAnswer}
+use Rattle.gf2.specs.Answers.{variable, Position, withdrawn, moved, AssumeAnswer, held, conflict, implied, ExplainAnswer}
 use Rattle.format.specs.Refusals.{refusal, number, answered}
 use Rattle.format.specs.declared.Refusal.{Refusal}
 use Rattle.format.proofs.Answering.{number_pos}
 use Rattle.judge.specs.declared.Header.{Header}
-use Rattle.judge.specs.Checks.{assume_checks, back_checks, explain_checks}
+use Rattle.judge.specs.Checks.{back_checks}
 use Rattle.judge.proofs.LineEleven.{is_fit}
 use Rattle.lines.specs.Lines.{Said, Put, text}
 use Rattle.parity.specs.declared.Assuming.{Assuming}
 use Rattle.parity.specs.declared.Assuming.TheVariants.{Held, Conflict, Taken}
 use Rattle.parity.specs.declared.Explained.{Explained}
 use Rattle.parity.specs.Numbers.{assume_says}
-use Rattle.parity.specs.Promises.{Stands, AssumePromise, AssumeLeaves, AssumeRight, BackPromise, ExplainPromise, ExplainLeaves, ExplainRight}
+use Rattle.parity.specs.Promises.{Stands, AssumePromise, AssumeLeaves, BackPromise, ExplainPromise, ExplainLeaves, ExplainRight}
 use Rattle.history.specs.Calls.{Counted}
 use Rattle.history.proofs.Demand.{counted, RefusedOrNot, refused_or, refused_is, some_one, none_some}
 use Rattle.history.proofs.Determined.{AssumeRefusal, ExplainRefusal}

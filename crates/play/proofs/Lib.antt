@@ -1,4 +1,5 @@
 pub mod Answering
+pub mod Continuing
 pub mod Starting
 pub mod Playing
 pub mod Filling

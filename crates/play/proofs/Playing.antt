@@ -2,7 +2,6 @@
 --   put_command     whatever the state is, a command leaves a text at the start of its line, and the rest as it was
 --   put_behind      what is put at the start of the rest of a buffer is put behind its front
 --   two_ahead       two bytes and what follows them
---   continued_on    where more may follow a text, and more again what followed, more may follow the two
 --   Playing         up to here: the text of the page, and what it means for the whole
 --   playing_none    no command yet
 --   playing_full    a page that is handed on, since it may have no room for the next line
@@ -14,8 +13,8 @@
 -- Assumes nothing.
 use mathlib.Core.Path.{◌≡◌, sym, ap, ap₂, ◌∙◌, subst}
 use mathlib.Core.Bool.{true, false, true≢false}
-use mathlib.Core.Logic.{◌⊎◌, inl, inr}
-use mathlib.Core.List.{List, [], ◌∷◌, ◌++◌, append_assoc, append-nil}
+use mathlib.Core.Logic.{inl, inr}
+use mathlib.Core.List.{List, [], ◌∷◌, ◌++◌, append-nil}
 use lib.ListN.{length, take, drop, get_or, length-append, length-take, length-drop, take-append-drop}
 use Prim.Native.Nat.{ℕ, suc, ◌+◌, ◌-◌, ◌≤◌, ◌<◌}
 use native.Mathlib.Omega.{arith}
@@ -23,7 +22,7 @@ use Rattle.std.proofs.Math.Seq.{take-append-add, drop-append-add, drop-cons}
 use lib.Seq.{drop-drop}
 use Rattle.gf2.specs.Answers.{Position}
 use Rattle.judge.specs.declared.Header.{Header}
-use Rattle.lines.specs.Lines.{Put, text}
+use Rattle.lines.specs.Lines.{Put}
 use Rattle.lines.proofs.Puts.{counted, put_none, put_text, put_then}
 use Rattle.parity.specs.Promises.{Stands}
 use Rattle.dialogue.specs.declared.Step.{Step}
@@ -32,6 +31,7 @@ use Rattle.dialogue.specs.Steps.{Turns, ends, assumes, backs, explains}
 use Rattle.play.specs.Session as session
 use Rattle.play.specs.Session.{Command, Commands}
 use Rattle.play.specs.Pages.{Roomy, Continued, Paged, Appended}
+use Rattle.play.proofs.Continuing.{so_far_whole, so_far_more, continued_on}
 use Rattle.play.proofs.Answering.{EndedOrSaid, command_said}
 
 pub put_command : {h : Header} {work literals rows line : List ℕ} {command : ℕ} {step : Step} {work' literals' rows' line' : List ℕ}
@@ -64,15 +64,6 @@ two_ahead s at h =
     let j : suc (suc at) ≡ at + 2 = omega arith in
     drop-cons s at 0 (omega arith) ∙ ap (λ (z : List ℕ). get_or s at 0 ∷ z) (drop-cons s (suc at) 0 (omega arith)) ∙ ap₂ (λ (i j : ℕ). get_or s at 0 ∷ get_or s i 0 ∷ drop j s) i j
 
--- what follows, and what follows that
-pub continued_on : {P : List ℕ → Type 0} {s : List ℕ} {at next : ℕ} {h h' : Header} {work work' text more : List ℕ} (c : Continued P s at h work text)
-    → Continued (Commands c.position (drop at s)) s next h' work' more → Continued P s next h' work' (text ++ more)
-continued_on {P} {text = text} {more = more} c d = record {
-  position = d.position;
-  stands = d.stands;
-  after = λ rest cs. subst P (sym (append_assoc text more rest)) (c.after (more ++ rest) (d.after rest cs));
-}
-
 -- the page says what a text of P begins with, and the commands that follow from there say the rest of it
 pub record Playing (s : List ℕ) (first : ℕ) (opened : Header) (work₀ page₀ : List ℕ) (at : ℕ) (h : Header) (end : ℕ) (work page : List ℕ) : Type 0 where
   pub since : first ≤ at
@@ -91,19 +82,14 @@ playing_none s first opened work page l = record {
 module _ {s : List ℕ} {first : ℕ} {opened : Header} {work₀ page₀ : List ℕ} {at : ℕ} {h : Header} {end : ℕ} {work page : List ℕ}
     (q : Playing s first opened work₀ page₀ at h end work page) where
   pub playing_full : (p : Position) → Stands opened work₀ p → Paged (Commands p (drop first s)) s (record { at = at; header = h; end = end; more = true }) work page₀ page
-  playing_full p st = record { put = q.put; so_far = record { within = q.within; whole = λ e. absurd (true≢false e); continued = λ e. q.continued p st } }
+  playing_full p st = record { put = q.put; so_far = so_far_more q.within (q.continued p st) }
 
   -- where the commands that are left say nothing
   pub playing_done : ((r : Position) → Commands r (drop at s) []) → {work' : List ℕ} (p : Position) → Stands opened work₀ p
       → Paged (Commands p (drop first s)) s (record { at = at; header = h; end = end; more = false }) work' page₀ page
-  playing_done none p st = record {
-    put = q.put;
-    so_far = record {
-      within = q.within;
-      whole = λ e. let c = q.continued p st in subst (Commands p (drop first s)) (append-nil (take end page)) (c.after [] (none c.position));
-      continued = λ e. absurd (true≢false (sym e));
-    };
-  }
+  playing_done none p st =
+      let c = q.continued p st in
+      record { put = q.put; so_far = so_far_whole q.within (subst (Commands p (drop first s)) (append-nil (take end page)) (c.after [] (none c.position))) }
 
   pub playing_over : length s - at < 2 → (p : Position) → Stands opened work₀ p
       → Paged (Commands p (drop first s)) s (record { at = at; header = h; end = end; more = false }) work page₀ page

@@ -4,12 +4,12 @@
 --   speaking_on   one page more
 --   fewer         a page brings the end nearer
 -- Assumes nothing.
-use mathlib.Core.Path.{◌≡◌, refl, sym, ap, ◌∙◌, subst}
+use mathlib.Core.Path.{◌≡◌, refl, ap, ◌∙◌}
 use mathlib.Core.Bool.{Bool, true, false, cond}
 use mathlib.Core.List.{List, ◌++◌, append_assoc}
 use Prim.Native.Nat.{ℕ, ◌+◌, ◌-◌, ◌<◌, ◌≤◌}
 use native.Mathlib.Omega.{arith}
-use lib.ListN.{length, take, drop}
+use lib.ListN.{take, drop}
 use Rattle.std.specs.Prelude.{Option, None, Some}
 use Rattle.std.specs.Io.KnownBytes.{Appends}
 use Rattle.gf2.specs.Answers.{Position}
@@ -17,7 +17,7 @@ use Rattle.parity.specs.Promises.{Stands}
 use Rattle.play.specs.declared.Progress.{Progress}
 use Rattle.play.specs.Session.{SessionOn, Commands}
 use Rattle.play.specs.Pages.{Continued, SoFar, Paged}
-use Rattle.play.proofs.Playing.{continued_on}
+use Rattle.play.proofs.Continuing.{so_far_on}
 
 pub appends_on : (a b c : Option (List ℕ)) (xs ys : List ℕ) → Appends a b xs → Appends b c ys → Appends a c (xs ++ ys)
 appends_on None b c xs ys f g = tt
@@ -36,14 +36,11 @@ pub speaking_on : {s : List ℕ} {old now new : Option (List ℕ)} {r q : Progre
 speaking_on {s} {old} {now} {new} {r} {q} {work} {work'} {page} {page'} k e paged grown = record {
   written = k.written ++ take q.end page';
   grown = appends_on old now new k.written (take q.end page') k.grown grown;
-  so_far = record { within = next.within; whole = λ f. here.after (take q.end page') (next.whole f); continued = λ f. continued_on here (next.continued f) };
+  so_far = so_far_on here (paged here.position here.stands).so_far;
 }
   where
     here : Continued (SessionOn s) s r.at r.header work k.written
     here = k.so_far.continued e
-
-    next : SoFar (Commands here.position (drop r.at s)) s q work' (take q.end page')
-    next = (paged here.position here.stands).so_far
 
 pub fewer : (most at next : ℕ) (more again : Bool) → more ≡ true → next ≤ most → (again ≡ true → at < next) → cond again (most - next + 1) 0 < cond more (most - at + 1) 0
 fewer most at next more true e l f = let h = f refl in rw e (omega arith)

@@ -3,17 +3,17 @@
 --   start_paged     the line of an opening is the first page of its session
 --   never_for_room  a session's sheet is never refused with 4, 6 or 7
 -- Assumes nothing.
-use mathlib.Core.Path.{◌≡◌, refl, sym, ap, ◌∙◌, subst}
-use mathlib.Core.Bool.{Bool, true, false, true≢false}
-use mathlib.Core.Logic.{◌⊎◌, inl, inr, ◌≢◌}
-use mathlib.Core.List.{List, ◌++◌}
+use mathlib.Core.Path.{◌≡◌, refl, sym, ◌∙◌, subst}
+use mathlib.Core.Bool.{Bool, true, false}
+use mathlib.Core.Logic.{inl, inr, ◌≢◌}
+use mathlib.Core.List.{List}
 use Prim.Native.Nat.{ℕ, suc, ◌*◌, ◌≤◌}
 use native.Mathlib.Omega.{arith}
 use lib.Dec.{ltb}
-use lib.ListN.{length, take, drop}
+use lib.ListN.{length, take}
 use borrow.Author.Tests.{ltb-false, le-ltb}
 use Rattle.std.specs.Prelude.{Result, Ok, Err}
-use Rattle.gf2.specs.Answers.{start, AnswersOpen}
+use Rattle.gf2.specs.Answers.{AnswersOpen}
 use Rattle.format.specs.Refusals.{refusal}
 use Rattle.format.specs.declared.Refusal.{Refusal}
 use Rattle.format.proofs.Refusing.{never}
@@ -33,6 +33,7 @@ use Rattle.dialogue.specs.Steps.{Begins}
 use Rattle.play.specs.Session as session
 use Rattle.play.specs.Session.{sheet_part, sheet_refusal, SessionOn}
 use Rattle.play.specs.Pages.{Roomy, SoFar, Paged}
+use Rattle.play.proofs.Continuing.{so_far_whole, so_far_more}
 
 pub roomy_checks : (s : List ℕ) (store words literals rows : ℕ) → 2304 ≤ store → 4096 ≤ words → 512 ≤ literals → 256 ≤ rows
     → refusal (open_checks s store words literals rows) ≡ refusal (reader s (9 * m_of s))
@@ -74,27 +75,16 @@ module _ {s store work literals rows page : List ℕ} (large : 2304 ≤ length s
       done : (a : Result Opening Refusal) → OpenDone (sheet_part s) store work literals rows h a store' work' literals' rows' → sheet_refusal (sheet_part s) ≡ 0
           → OpeningSoFar s h end work' literals' rows' a
       done (Err r) d z = absurd d.leaves
-      done (Ok (Unsatisfiable x)) d z = record {
-        within = within;
-        whole = λ e. session.contradicted z (subst (AnswersOpen (n_of (sheet_part s)) (sheet_rows (sheet_part s))) (sym (some_one _ d.said d.says)) d.right);
-        continued = λ e. absurd (true≢false (sym e));
-      }
-      done (Ok (Opened x)) d z = record {
-        within = within;
-        whole = λ e. absurd (true≢false e);
-        continued = λ e. record {
-          position = start (n_of (sheet_part s)) (sheet_rows (sheet_part s));
-          stands = d.leaves.4;
-          after = λ more cs. session.commanded z (subst (AnswersOpen (n_of (sheet_part s)) (sheet_rows (sheet_part s))) (sym (some_one _ d.said d.says)) d.right) cs;
-        };
-      }
+      done (Ok (Unsatisfiable x)) d z =
+          so_far_whole within (session.contradicted z (subst (AnswersOpen (n_of (sheet_part s)) (sheet_rows (sheet_part s))) (sym (some_one _ d.said d.says)) d.right))
+      done (Ok (Opened x)) d z =
+          let right = subst (AnswersOpen (n_of (sheet_part s)) (sheet_rows (sheet_part s))) (sym (some_one _ d.said d.says)) d.right in
+          so_far_more within (record { position = _; stands = d.leaves.4; after = λ more cs. session.commanded z right cs })
 
-      go : RefusedOrNot (OpenRefusal nothing_open (sheet_part s) store work literals rows)
-          → OpeningSoFar s h end work' literals' rows' a
+      go : RefusedOrNot (OpenRefusal nothing_open (sheet_part s) store work literals rows) → OpeningSoFar s h end work' literals' rows' a
       go (inl w) =
           let r = refused_is a (suc w.0) (promise.refused w.0 w.1).0 in
-          rw r.1
-          (record { within = within; whole = λ e. rw r.2 (session.refused (sym same ∙ w.1)); continued = λ e. absurd (true≢false (sym e)) })
+          rw r.1 (so_far_whole within (rw r.2 (session.refused (sym same ∙ w.1))))
       go (inr z) = done a (promise.done z) (sym same ∙ z)
 
   pub start_paged : {at : ℕ} → at ≡ sheet_end s → {step : Step} {store' work' literals' rows' page' : List ℕ}
