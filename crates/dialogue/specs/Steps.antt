@@ -68,9 +68,11 @@ pub record ExplainStep (h : Header) (work literals rows line : List ℕ) (variab
 
 pub data Turns (h : Header) (work literals rows line : List ℕ) (command : ℕ) : Step → List ℕ → List ℕ → List ℕ → List ℕ → Type 0 where
   ends : kind command ≡ 0 → Turns h work literals rows line command (record { header = h; end = 0; more = false }) work literals rows line
-  assumes : {step : Step} {work' literals' line' : List ℕ} → kind command ≡ 1 → AssumeStep h work literals line (operand command) step work' literals' line'
+  assumes : {step : Step} {work' literals' line' : List ℕ}
+      → kind command ≡ 1 → AssumeStep h work literals line (operand command) step work' literals' line'
       → Turns h work literals rows line command step work' literals' rows line'
   backs : {step : Step} {work' line' : List ℕ} → kind command ≡ 2 → BackStep h work line (operand command) step work' line'
       → Turns h work literals rows line command step work' literals rows line'
-  explains : {step : Step} {literals' rows' line' : List ℕ} → kind command ≡ 3 → ExplainStep h work literals rows line (operand command) step literals' rows' line'
+  explains : {step : Step} {literals' rows' line' : List ℕ}
+      → kind command ≡ 3 → ExplainStep h work literals rows line (operand command) step literals' rows' line'
       → Turns h work literals rows line command step work literals' rows' line'

@@ -50,7 +50,8 @@ pub record CommandSaid (p : Position) (command : ℕ) (step : Step) (line work' 
   pub more : step.more ≡ true
 
 abbrev pub EndedOrSaid : Position → ℕ → Step → List ℕ → List ℕ → List ℕ → Type 0
-EndedOrSaid p command step line work' line' = ((kind command ≡ 0) × (line' ≡ line) × (step.more ≡ false)) ⊎ CommandSaid p command step line work' line'
+EndedOrSaid p command step line work' line' =
+    ((kind command ≡ 0) × (line' ≡ line) × (step.more ≡ false)) ⊎ CommandSaid p command step line work' line'
 
 -- the last check of a list, with a number of its own
 last : (b : Bool) (k c : ℕ) → cond b k 0 ≡ suc c → suc c ≡ k
@@ -66,35 +67,40 @@ module _ {h : Header} {work literals rows page : List ℕ} {p : Position} (st : 
   assume_eighth code c e =
       let n = st.fit.vars in
       let l = roomy.literals_long in
-      last (ltb code 2 || ltb (2 * h.n + 1) code) 8 c (rw (is_fit h st.fit, le-ltb (length work) 4096 roomy.work_long, le-ltb (length literals) h.n (omega arith)) at e)
+      last (ltb code 2 || ltb (2 * h.n + 1) code) 8 c
+      (rw (is_fit h st.fit, le-ltb (length work) 4096 roomy.work_long, le-ltb (length literals) h.n (omega arith)) at e)
 
-  pub assume_line_right : {code : ℕ} {h' : Header} {answer : Result Assuming Refusal} {work' literals' : List ℕ} → AssumePromise h work literals code h' answer work' literals'
+  pub assume_line_right : {code : ℕ} {h' : Header} {answer : Result Assuming Refusal} {work' literals' : List ℕ}
+      → AssumePromise h work literals code h' answer work' literals'
       → (next : Position) × Command p 1 code (said_assuming answer literals') next × Stands h' work' next
   assume_line_right {code} {h'} {answer} {work'} {literals'} promise = go (refused_or (AssumeRefusal h work literals code))
     where
       fits : p.n ≤ length literals
       fits = let e = count.variables in let n = st.fit.vars in let l = roomy.literals_long in omega arith
 
-      line : (a : Result Assuming Refusal) → AssumeLeaves h code h' a work literals work' literals' → (said : AssumeAnswer) → assume_says a literals' ≡ some said
-          → said_assuming a literals' ≡ assume_line (variable code) said
+      line : (a : Result Assuming Refusal) → AssumeLeaves h code h' a work literals work' literals'
+          → (said : AssumeAnswer) → assume_says a literals' ≡ some said → said_assuming a literals' ≡ assume_line (variable code) said
       line (Err r) f said e = absurd (none_some _ e)
       line (Ok Held) f said e = ap (assume_line (variable code)) (some_one held said e)
       line (Ok (Conflict v)) f said e = ap Said.conflict f.0 ∙ ap (assume_line (variable code)) (some_one conflict said e)
       line (Ok (Taken x)) f said e = ap (assume_line (variable code)) (some_one (implied (take x literals')) said e)
 
-      go : RefusedOrNot (AssumeRefusal h work literals code) → (next : Position) × Command p 1 code (said_assuming answer literals') next × Stands h' work' next
+      go : RefusedOrNot (AssumeRefusal h work literals code)
+          → (next : Position) × Command p 1 code (said_assuming answer literals') next × Stands h' work' next
       go (inl w) =
           let e = promise.refused w.0 w.1 in
           let r = refused_is answer (suc w.0) e.0 in (
             p,
-            rw (r.1, r.2 ∙ assume_eighth code w.0 w.1) (session.no_literal (λ l. let z = (assume_accepted h work p st literals code).1 (fits, l) in absurd (omega (arith, w.1)))),
+            rw (r.1, r.2 ∙ assume_eighth code w.0 w.1)
+                (session.no_literal (λ l. let z = (assume_accepted h work p st literals code).1 (fits, l) in absurd (omega (arith, w.1)))),
             rw (e.1, e.2) st,
           )
       go (inr z) =
           let a = promise.right z p st in
           let l = ((assume_accepted h work p st literals code).0 z).1 in (
             moved p code a.said,
-            subst (λ (s : Said). Command p 1 code s (moved p code a.said)) (sym (line answer (promise.leaves z) a.said a.says)) (session.assumed a.said l a.right),
+            subst (λ (s : Said). Command p 1 code s (moved p code a.said)) (sym (line answer (promise.leaves z) a.said a.says))
+                (session.assumed a.said l a.right),
             a.stands,
           )
 
@@ -102,7 +108,8 @@ module _ {h : Header} {work literals rows page : List ℕ} {p : Position} (st : 
   back_ninth : (depth c : ℕ) → refusal (back_checks h (length work) depth) ≡ suc c → suc c ≡ 9
   back_ninth depth c e = last (ltb h.depth depth) 9 c (rw (is_fit h st.fit, le-ltb (length work) 4096 roomy.work_long) at e)
 
-  pub back_line_right : {depth : ℕ} {h' : Header} (answer : Result (Unit {0}) Refusal) {work' : List ℕ} → BackPromise h work depth (answered answer) h' work'
+  pub back_line_right : {depth : ℕ} {h' : Header} (answer : Result (Unit {0}) Refusal) {work' : List ℕ}
+      → BackPromise h work depth (answered answer) h' work'
       → (next : Position) × Command p 2 depth (said_backing answer h'.depth) next × Stands h' work' next
   back_line_right {depth} (Ok x) promise =
       let e = ap (λ (k : Header). k.depth) (promise.done refl).0 in
@@ -113,7 +120,8 @@ module _ {h : Header} {work literals rows page : List ℕ} {p : Position} (st : 
       let same = promise.refused (number r - 1) q in
       (p, rw (q ∙ back_ninth depth (number r - 1) e) (session.too_deep (deeper (cases_lt (length p.taken) depth) e)), rw (same.0, same.1) st)
     where
-      deeper : (length p.taken < depth) ⊎ (depth ≤ length p.taken) → refusal (back_checks h (length work) depth) ≡ suc (number r - 1) → length p.taken < depth
+      deeper : (length p.taken < depth) ⊎ (depth ≤ length p.taken)
+          → refusal (back_checks h (length work) depth) ≡ suc (number r - 1) → length p.taken < depth
       deeper (inl l) e = l
       deeper (inr l) e = let z = (back_accepted h work p st depth).1 l in absurd (omega (arith, e))
 
@@ -127,7 +135,8 @@ module _ {h : Header} {work literals rows page : List ℕ} {p : Position} (st : 
       last (ltb v 1 || ltb h.n v) 8 c
       (rw (is_fit h st.fit, le-ltb (length work) 4096 roomy.work_long, le-ltb (length literals) h.n (omega arith), le-ltb (length rows) h.m (omega arith)) at e)
 
-  pub explain_line_right : {v : ℕ} {answer : Result Explained Refusal} {literals' rows' : List ℕ} → ExplainPromise h work literals rows v answer literals' rows'
+  pub explain_line_right : {v : ℕ} {answer : Result Explained Refusal} {literals' rows' : List ℕ}
+      → ExplainPromise h work literals rows v answer literals' rows'
       → Command p 3 v (said_explaining answer v literals' rows') p
   explain_line_right {v} {answer} {literals'} {rows'} promise = go (refused_or (ExplainRefusal h work literals rows v))
     where
@@ -145,7 +154,8 @@ module _ {h : Header} {work literals rows page : List ℕ} {p : Position} (st : 
           → Command p 3 v (said_explaining a v literals' rows') p
       told x (Err r) f g = rw f.0 (session.unexplained x g)
       told x (Ok e) f g =
-          subst (λ (y : ExplainAnswer). Command p 3 v (Said.explained v y.clause y.numbers) p) (sym (some_one _ g.1.0 g.1.1)) (session.explained g.1.0 x g.0 g.1.2)
+          subst (λ (y : ExplainAnswer). Command p 3 v (Said.explained v y.clause y.numbers) p) (sym (some_one _ g.1.0 g.1.1))
+          (session.explained g.1.0 x g.0 g.1.2)
 
       go : RefusedOrNot (ExplainRefusal h work literals rows v) → Command p 3 v (said_explaining answer v literals' rows') p
       go (inl w) =
@@ -154,7 +164,8 @@ module _ {h : Header} {work literals rows page : List ℕ} {p : Position} (st : 
       go (inr z) = told ((explain_accepted h work p st literals rows v).0 z).2 answer (promise.leaves z) (promise.right z p st)
 
   -- ---- any command
-  pub command_said : {line : List ℕ} {command : ℕ} {step : Step} {work' literals' rows' line' : List ℕ} → Turns h work literals rows line command step work' literals' rows' line'
+  pub command_said : {line : List ℕ} {command : ℕ} {step : Step} {work' literals' rows' line' : List ℕ}
+      → Turns h work literals rows line command step work' literals' rows' line'
       → EndedOrSaid p command step line work' line'
   command_said (ends e) = inl (e, refl, refl)
   command_said (assumes e t) =

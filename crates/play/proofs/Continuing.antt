@@ -18,7 +18,8 @@ module _ {P : List ℕ → Type 0} {s : List ℕ} {at : ℕ} {h : Header} {work 
   pub so_far_whole : {end : ℕ} → at ≤ length s → P text → SoFar P s (record { at = at; header = h; end = end; more = false }) work text
   so_far_whole l t = record { within = l; whole = λ e. t; continued = λ e. absurd (true≢false (sym e)) }
 
-  pub so_far_more : {end : ℕ} → at ≤ length s → Continued P s at h work text → SoFar P s (record { at = at; header = h; end = end; more = true }) work text
+  pub so_far_more : {end : ℕ} → at ≤ length s → Continued P s at h work text
+      → SoFar P s (record { at = at; header = h; end = end; more = true }) work text
   so_far_more l c = record { within = l; whole = λ e. absurd (true≢false e); continued = λ e. c }
 
   pub continued_on : {next : ℕ} {h' : Header} {work' more : List ℕ} (c : Continued P s at h work text)

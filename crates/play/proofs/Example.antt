@@ -25,7 +25,9 @@ example_text = word "open 3 implied 0\nimplied 1 7\nexplain 3 clause 7 3 rows 1 
 
 -- the run of the settled table that this session is
 abbrev run : List Event
-run = sheet system_b_sheet (opened 3 []) ∷ assumes 2 (implied (7 ∷ [])) ∷ explains 3 (because (7 ∷ 3 ∷ []) (1 ∷ 3 ∷ [])) ∷ assumes 6 conflict ∷ backs 0 ∷ assumes 8 (implied []) ∷ []
+run =
+    sheet system_b_sheet (opened 3 []) ∷ assumes 2 (implied (7 ∷ [])) ∷ explains 3 (because (7 ∷ 3 ∷ []) (1 ∷ 3 ∷ []))
+    ∷ assumes 6 conflict ∷ backs 0 ∷ assumes 8 (implied []) ∷ []
 
 right : Runs none run
 right = settled.1.1.1.1.1.1.1.0

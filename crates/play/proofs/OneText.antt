@@ -3,6 +3,7 @@
 --   command_one, commands_one, session_one      and there is one
 --   one_text         THE STATEMENT: of every input of bytes
 --   spoken_same      two writers that held the same bytes, and grew by the session on one input, hold the same bytes
+--   Bytes s          a list of bytes
 --   next_reached     the position after a command is one that calls lead to
 -- Assumes nothing.
 use mathlib.Core.Path.{◌≡◌, refl, sym, ap, ap₂, ◌∙◌, subst}
@@ -157,7 +158,8 @@ commands_one p g [] b = ([], over (omega arith))
 commands_one p g (high ∷ []) b = ([], over (omega arith))
 commands_one p g (high ∷ low ∷ bytes) b = go (λ q r. commands_one q r bytes b.1.1) (same_dec (kind (command_of high low)) 0)
   where
-    go : ((q : Position) → Reached q → (t : List ℕ) × Commands q bytes t) → (kind (command_of high low) ≡ 0) ⊎ (kind (command_of high low) ≢ 0) → (t : List ℕ) × Commands p (high ∷ low ∷ bytes) t
+    go : ((q : Position) → Reached q → (t : List ℕ) × Commands q bytes t) → (kind (command_of high low) ≡ 0) ⊎ (kind (command_of high low) ≢ 0)
+        → (t : List ℕ) × Commands p (high ∷ low ∷ bytes) t
     go more (inl e) = ([], ended e)
     go more (inr n) =
         let h = b.0 in
@@ -198,7 +200,8 @@ one_text input b =
     session_one (sheet_part s) (command_part s) (all_drop (sheet_end s) s (all_take most_bytes input b))
 
 -- so what a writer holds at the end is determined, where it was known at the start
-pub spoken_same : (s : List ℕ) {xs : List ℕ} {new new' : Option (List ℕ)} → Spoken (SessionOn s) (Some xs) new → Spoken (SessionOn s) (Some xs) new' → new ≡ new'
+pub spoken_same : (s : List ℕ) {xs : List ℕ} {new new' : Option (List ℕ)}
+    → Spoken (SessionOn s) (Some xs) new → Spoken (SessionOn s) (Some xs) new' → new ≡ new'
 spoken_same s {new = None} p q = absurd p.grown
 spoken_same s {new = Some ys} {new' = None} p q = absurd q.grown
 spoken_same s {xs} {new = Some ys} {new' = Some zs} p q = ap Some (p.grown ∙ ap (λ (t : List ℕ). xs ++ t) (session_same p.says q.says) ∙ sym q.grown)

@@ -26,7 +26,7 @@ use Rattle.lines.specs.Lines.{Put}
 use Rattle.lines.proofs.Puts.{counted, put_none, put_text, put_then}
 use Rattle.parity.specs.Promises.{Stands}
 use Rattle.dialogue.specs.declared.Step.{Step}
-use Rattle.dialogue.specs.Dialogue.{command_of, kind, operand}
+use Rattle.dialogue.specs.Dialogue.{command_of}
 use Rattle.dialogue.specs.Steps.{Turns, ends, assumes, backs, explains}
 use Rattle.play.specs.Session as session
 use Rattle.play.specs.Session.{Command, Commands}
@@ -41,12 +41,15 @@ put_command (assumes e t) = put_text t.says (sym t.says.front)
 put_command (backs e t) = put_text t.says (sym t.says.front)
 put_command (explains e t) = put_text t.says (sym t.says.front)
 
-pub put_behind : {page t line' : List ℕ} {at end : ℕ} → at ≤ length page → Put (drop at page) 0 t line' end → Put page at t (take at page ++ line') (at + end)
+pub put_behind : {page t line' : List ℕ} {at end : ℕ} → at ≤ length page → Put (drop at page) 0 t line' end
+    → Put page at t (take at page ++ line') (at + end)
 put_behind {page} {t} {line'} {at} {end} h f =
     let l : length (take at page) ≡ at = omega (arith, length-take at page) in
-    let whole : length (take at page ++ line') ≡ length page = omega (arith, length-append (take at page) line', length-take at page, length-drop at page, f.room) in
+    let whole : length (take at page ++ line') ≡ length page =
+    omega (arith, length-append (take at page) line', length-take at page, length-drop at page, f.room) in
     let front : take (at + end) (take at page ++ line') ≡ take at page ++ t =
-    ap (λ (i : ℕ). take (i + end) (take at page ++ line')) (sym l) ∙ take-append-add (take at page) line' end ∙ ap (λ (z : List ℕ). take at page ++ z) f.front in
+    ap (λ (i : ℕ). take (i + end) (take at page ++ line')) (sym l) ∙ take-append-add (take at page) line' end
+    ∙ ap (λ (z : List ℕ). take at page ++ z) f.front in
     let rest : drop (at + end) (take at page ++ line') ≡ drop (at + end) page =
     ap (λ (i : ℕ). drop (i + end) (take at page ++ line')) (sym l) ∙ drop-append-add (take at page) line' end ∙ f.rest ∙ drop-drop end at page in
     let counts = f.counts in
@@ -62,16 +65,20 @@ pub two_ahead : (s : List ℕ) (at : ℕ) → at + 2 ≤ length s → drop at s 
 two_ahead s at h =
     let i : suc at ≡ at + 1 = omega arith in
     let j : suc (suc at) ≡ at + 2 = omega arith in
-    drop-cons s at 0 (omega arith) ∙ ap (λ (z : List ℕ). get_or s at 0 ∷ z) (drop-cons s (suc at) 0 (omega arith)) ∙ ap₂ (λ (i j : ℕ). get_or s at 0 ∷ get_or s i 0 ∷ drop j s) i j
+    drop-cons s at 0 (omega arith)
+    ∙ ap (λ (z : List ℕ). get_or s at 0 ∷ z) (drop-cons s (suc at) 0 (omega arith))
+    ∙ ap₂ (λ (i j : ℕ). get_or s at 0 ∷ get_or s i 0 ∷ drop j s) i j
 
 -- the page says what a text of P begins with, and the commands that follow from there say the rest of it
-pub record Playing (s : List ℕ) (first : ℕ) (opened : Header) (work₀ page₀ : List ℕ) (at : ℕ) (h : Header) (end : ℕ) (work page : List ℕ) : Type 0 where
+pub record Playing (s : List ℕ) (first : ℕ) (opened : Header) (work₀ page₀ : List ℕ)
+    (at : ℕ) (h : Header) (end : ℕ) (work page : List ℕ) : Type 0 where
   pub since : first ≤ at
   pub within : at ≤ length s
   pub put : Put page₀ 0 (take end page) page end
   pub continued : (p : Position) → Stands opened work₀ p → Continued (Commands p (drop first s)) s at h work (take end page)
 
-pub playing_none : (s : List ℕ) (first : ℕ) (opened : Header) (work page : List ℕ) → first ≤ length s → Playing s first opened work page first opened 0 work page
+pub playing_none : (s : List ℕ) (first : ℕ) (opened : Header) (work page : List ℕ) → first ≤ length s
+    → Playing s first opened work page first opened 0 work page
 playing_none s first opened work page l = record {
   since = omega arith;
   within = l;
@@ -81,7 +88,8 @@ playing_none s first opened work page l = record {
 
 module _ {s : List ℕ} {first : ℕ} {opened : Header} {work₀ page₀ : List ℕ} {at : ℕ} {h : Header} {end : ℕ} {work page : List ℕ}
     (q : Playing s first opened work₀ page₀ at h end work page) where
-  pub playing_full : (p : Position) → Stands opened work₀ p → Paged (Commands p (drop first s)) s (record { at = at; header = h; end = end; more = true }) work page₀ page
+  pub playing_full : (p : Position) → Stands opened work₀ p
+      → Paged (Commands p (drop first s)) s (record { at = at; header = h; end = end; more = true }) work page₀ page
   playing_full p st = record { put = q.put; so_far = so_far_more q.within (q.continued p st) }
 
   -- where the commands that are left say nothing
@@ -98,18 +106,18 @@ module _ {s : List ℕ} {first : ℕ} {opened : Header} {work₀ page₀ : List 
   module _ {literals rows work' literals' rows' page' : List ℕ} {command : ℕ} {step : Step}
       (a : Appended h work literals rows page end command step work' literals' rows' page') where
     -- the text of the page is what it was, and then what was said
-    text_on : end ≤ length page → {t : List ℕ} → Put (drop end page) 0 t a.line' a.end → Put page₀ 0 (take end page ++ t) page' step.end
-    text_on l f = rw (a.joined, a.ends) (put_then q.put (put_behind l f))
+    text_on : {t : List ℕ} → Put (drop end page) 0 t a.line' a.end → Put page₀ 0 (take end page ++ t) page' step.end
+    text_on f = rw (a.joined, a.ends) (put_then q.put (put_behind q.put.counts.0 f))
 
-    pub text_put : end ≤ length page → Put page₀ 0 (take step.end page') page' step.end
-    text_put l = let f = text_on l (put_command a.turns) in put_text f (sym f.front)
+    pub text_put : Put page₀ 0 (take step.end page') page' step.end
+    text_put = let f = text_on (put_command a.turns) in put_text f (sym f.front)
 
-    module _ (here : command ≡ command_of (get_or s at 0) (get_or s (at + 1) 0)) (two : at + 2 ≤ length s) (l : end ≤ length page) (roomy : Roomy work literals rows page) where
+    module _ (here : command ≡ command_of (get_or s at 0) (get_or s (at + 1) 0)) (two : at + 2 ≤ length s) (roomy : Roomy work literals rows page) where
       pub playing_on : step.more ≡ true → Playing s first opened work₀ page₀ (at + 2) step.header step.end work' page'
       playing_on more = record {
         since = let f = q.since in omega arith;
         within = two;
-        put = text_put l;
+        put = text_put;
         continued = λ p st. let c = q.continued p st in go c (command_said c.stands roomy a.turns);
       }
         where
@@ -118,12 +126,12 @@ module _ {s : List ℕ} {first : ℕ} {opened : Header} {work₀ page₀ : List 
               → Continued P s (at + 2) step.header work' (take step.end page')
           go c (inl e) = absurd (true≢false (sym more ∙ e.2))
           go c (inr t) =
-              rw (text_on l t.put).front
+              rw (text_on t.put).front
               (continued_on c
               (record {
                 position = t.next;
                 stands = t.stands;
-                after = λ rest cs. rw (two_ahead s at two) (session.then (subst (λ (k : ℕ). Command c.position (kind k) (operand k) t.said t.next) here t.answered) cs);
+                after = λ rest cs. rw (two_ahead s at two) (session.then (rw here at t.answered) cs);
               }))
 
       pub playing_ended : step.more ≡ false → (p : Position) → Stands opened work₀ p
@@ -135,4 +143,4 @@ module _ {s : List ℕ} {first : ℕ} {opened : Header} {work₀ page₀ : List 
           go (inr t) = absurd (true≢false (sym t.more ∙ more))
           go (inl e) =
               let same : page' ≡ page = a.joined ∙ ap (λ (z : List ℕ). take end page ++ z) e.1 ∙ take-append-drop end page in
-              rw same (playing_done (λ r. rw (two_ahead s at two) (session.ended (subst (λ (k : ℕ). kind k ≡ 0) here e.0))) p st)
+              rw same (playing_done (λ r. rw (two_ahead s at two) (session.ended (rw here at e.0))) p st)

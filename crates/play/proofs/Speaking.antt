@@ -1,6 +1,6 @@
 -- THE PAGES OF A SESSION, written one after another.
 --   appends_on    what two writes gave a writer, one after the other
---   Speaking      up to here: what was written, and what it means for the session
+--   Speaking      up to here: what was written, and how far the session has come
 --   speaking_on   one page more
 --   fewer         a page brings the end nearer
 -- Assumes nothing.
@@ -30,9 +30,9 @@ pub record Speaking (s : List ℕ) (old now : Option (List ℕ)) (r : Progress) 
   pub grown : Appends old now written
   pub so_far : SoFar (SessionOn s) s r work written
 
-pub speaking_on : {s : List ℕ} {old now new : Option (List ℕ)} {r q : Progress} {work work' page page' : List ℕ} → Speaking s old now r work → r.more ≡ true
-    → ((p : Position) → Stands r.header work p → Paged (Commands p (drop r.at s)) s q work' page page') → Appends now new (take q.end page')
-    → Speaking s old new q work'
+pub speaking_on : {s : List ℕ} {old now new : Option (List ℕ)} {r q : Progress} {work work' page page' : List ℕ}
+    → Speaking s old now r work → r.more ≡ true → ((p : Position) → Stands r.header work p → Paged (Commands p (drop r.at s)) s q work' page page')
+    → Appends now new (take q.end page') → Speaking s old new q work'
 speaking_on {s} {old} {now} {new} {r} {q} {work} {work'} {page} {page'} k e paged grown = record {
   written = k.written ++ take q.end page';
   grown = appends_on old now new k.written (take q.end page') k.grown grown;
@@ -42,6 +42,7 @@ speaking_on {s} {old} {now} {new} {r} {q} {work} {work'} {page} {page'} k e page
     here : Continued (SessionOn s) s r.at r.header work k.written
     here = k.so_far.continued e
 
-pub fewer : (most at next : ℕ) (more again : Bool) → more ≡ true → next ≤ most → (again ≡ true → at < next) → cond again (most - next + 1) 0 < cond more (most - at + 1) 0
+pub fewer : (most at next : ℕ) (more again : Bool) → more ≡ true → next ≤ most → (again ≡ true → at < next)
+    → cond again (most - next + 1) 0 < cond more (most - at + 1) 0
 fewer most at next more true e l f = let h = f refl in rw e (omega arith)
 fewer most at next more false e l f = rw e (omega arith)

@@ -39,7 +39,8 @@ pub roomy_checks : (s : List ℕ) (store words literals rows : ℕ) → 2304 ≤
     → refusal (open_checks s store words literals rows) ≡ refusal (reader s (9 * m_of s))
 roomy_checks s store words literals rows a b c d = go (ltb 512 (n_of s)) refl (ltb 256 (m_of s)) refl
   where
-    go : (many : Bool) → ltb 512 (n_of s) ≡ many → (more : Bool) → ltb 256 (m_of s) ≡ more → refusal (open_checks s store words literals rows) ≡ refusal (reader s (9 * m_of s))
+    go : (many : Bool) → ltb 512 (n_of s) ≡ many → (more : Bool) → ltb 256 (m_of s) ≡ more
+        → refusal (open_checks s store words literals rows) ≡ refusal (reader s (9 * m_of s))
     go true e more f = rw e refl
     go false e true f = rw (e, f) refl
     go false e false f =
@@ -72,11 +73,12 @@ module _ {s store work literals rows page : List ℕ} (large : 2304 ≤ length s
       within : sheet_end s ≤ length s
       within = omega arith
 
-      done : (a : Result Opening Refusal) → OpenDone (sheet_part s) store work literals rows h a store' work' literals' rows' → sheet_refusal (sheet_part s) ≡ 0
-          → OpeningSoFar s h end work' literals' rows' a
+      done : (a : Result Opening Refusal) → OpenDone (sheet_part s) store work literals rows h a store' work' literals' rows'
+          → sheet_refusal (sheet_part s) ≡ 0 → OpeningSoFar s h end work' literals' rows' a
       done (Err r) d z = absurd d.leaves
       done (Ok (Unsatisfiable x)) d z =
-          so_far_whole within (session.contradicted z (subst (AnswersOpen (n_of (sheet_part s)) (sheet_rows (sheet_part s))) (sym (some_one _ d.said d.says)) d.right))
+          let right = subst (AnswersOpen (n_of (sheet_part s)) (sheet_rows (sheet_part s))) (sym (some_one _ d.said d.says)) d.right in
+          so_far_whole within (session.contradicted z right)
       done (Ok (Opened x)) d z =
           let right = subst (AnswersOpen (n_of (sheet_part s)) (sheet_rows (sheet_part s))) (sym (some_one _ d.said d.says)) d.right in
           so_far_more within (record { position = _; stands = d.leaves.4; after = λ more cs. session.commanded z right cs })

@@ -1,6 +1,6 @@
 -- WHAT A SESSION SAYS: one definition, from the bytes of the input to the text (document 01, "The session program"). It speaks of the answers
--- of the definitions alone: no buffer and no header of the module stands in it. What is said of an answer, and of what parts a command
--- consists, stands in dialogue/specs/Dialogue.
+-- of the definitions alone: no buffer and no header of the module stands in it. How long the sheet is, the parts of a command and what is
+-- said of an answer (`sheet_end`, `command_of`, `kind`, `operand`, `opening_line`, `assume_line`) stand in dialogue/specs/Dialogue.
 --   most_bytes                    so many bytes of standard input count, the rest is ignored
 --   sheet_part s, command_part s  the sheet at the start of the input, as long as its own first 19 bits say, and what follows it
 --   sheet_refusal sheet           the number with which the reader refuses the sheet, given room for its rows; 0 where it does not
@@ -35,7 +35,8 @@ sheet_refusal sheet = refusal (reader sheet (9 * m_of sheet))
 -- ---- a command: 1 assume a code, 2 back to a depth, 3 explain a variable
 
 pub data Command (p : Position) : ℕ → ℕ → Said → Position → Type 0 where
-  assumed : {l : ℕ} (answer : AssumeAnswer) → Literal p.n l → AnswersAssume p l answer → Command p 1 l (assume_line (variable l) answer) (moved p l answer)
+  assumed : {l : ℕ} (answer : AssumeAnswer) → Literal p.n l → AnswersAssume p l answer
+      → Command p 1 l (assume_line (variable l) answer) (moved p l answer)
   no_literal : {l : ℕ} → (Literal p.n l → ⊥) → Command p 1 l (Said.refused 8) p
   gone_back : {d : ℕ} → d ≤ length p.taken → Command p 2 d (Said.back d) (withdrawn p d)
   too_deep : {d : ℕ} → length p.taken < d → Command p 2 d (Said.refused 9) p
@@ -48,8 +49,9 @@ pub data Command (p : Position) : ℕ → ℕ → Said → Position → Type 0 w
 pub data Commands : Position → List ℕ → List ℕ → Type 0 where
   over : {p : Position} {bytes : List ℕ} → length bytes < 2 → Commands p bytes []
   ended : {p : Position} {high low : ℕ} {bytes : List ℕ} → kind (command_of high low) ≡ 0 → Commands p (high ∷ low ∷ bytes) []
-  then : {p q : Position} {high low : ℕ} {bytes more : List ℕ} {said : Said} → Command p (kind (command_of high low)) (operand (command_of high low)) said q
-      → Commands q bytes more → Commands p (high ∷ low ∷ bytes) (text said ++ more)
+  then : {p q : Position} {high low : ℕ} {bytes more : List ℕ} {said : Said}
+      → Command p (kind (command_of high low)) (operand (command_of high low)) said q → Commands q bytes more
+      → Commands p (high ∷ low ∷ bytes) (text said ++ more)
 
 -- ---- the session
 

@@ -14,8 +14,9 @@ use judge::Header;
 use std::io;
 use std::io::{Read, Write};
 
-// The most variables, and the most rows.
+// The most variables.
 const MAX_VARS: usize = 512;
+// The most rows.
 const MAX_ROWS: usize = 256;
 // Words of a row store that has room for the rows of every sheet.
 const STORE_WORDS: usize = 9 * MAX_ROWS;
@@ -124,8 +125,8 @@ fn play(
     }
 }
 
-// Writes the session on input `s`, page by page. The buffers are large enough for every sheet and every answer: no call is refused
-// with 6 or 7, for `Session` has no such line.
+// Writes what the session on `s` says to `out`, page by page. The buffers are large enough for every sheet and every answer: no call is
+// refused with 6 or 7, for `Session` has no such line.
 fn speak<W: Write>(s: &[u8], out: &mut W) -> io::Result<()>
     ensures { OnOk result (Spoken (SessionOn s.now) (W.contents out.old) (W.contents out.new)) }
 {
@@ -134,7 +135,7 @@ fn speak<W: Write>(s: &[u8], out: &mut W) -> io::Result<()>
     let mut literals = [0u64; MAX_VARS];
     let mut rows = [0u64; MAX_ROWS];
     let mut page = [0u8; PAGE];
-    let mut played = start(
+    let mut progress = start(
         s,
         &mut store,
         &mut work,
@@ -142,18 +143,18 @@ fn speak<W: Write>(s: &[u8], out: &mut W) -> io::Result<()>
         &mut rows,
         &mut page,
     );
-    out.write_all(&page[..played.end])?;
-    while played.more {
-        played = play(
+    out.write_all(&page[..progress.end])?;
+    while progress.more {
+        progress = play(
             s,
-            played.at,
-            played.header,
+            progress.at,
+            progress.header,
             &mut work,
             &mut literals,
             &mut rows,
             &mut page,
         );
-        out.write_all(&page[..played.end])?;
+        out.write_all(&page[..progress.end])?;
     }
     Ok(())
 }

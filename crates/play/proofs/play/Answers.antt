@@ -15,22 +15,22 @@ pub append-step-requires : goal.append-step-requires
 append-step-requires c = c.loop-at.invariant.2
 
 pub overflow_sub-page : goal.overflow_sub-page
-overflow_sub-page c = (text_put c.loop-at.invariant.0 c.append-step.ensures (omega (arith, c.loop-at.invariant.2))).counts.0
+overflow_sub-page c = (text_put c.loop-at.invariant.0 c.append-step.ensures).counts.0
 
 pub returns-then-not-step-clause-paged : goal.returns-then-not-step-clause-paged
 returns-then-not-step-clause-paged c =
-    playing_ended c.loop-at.invariant.0 c.append-step.ensures c.command-command.ensures (omega (arith, c.if-s-at-lt2.false)) (omega (arith, c.loop-at.invariant.2)) c.loop-at.invariant.1
+    playing_ended c.loop-at.invariant.0 c.append-step.ensures c.command-command.ensures (omega (arith, c.if-s-at-lt2.false)) c.loop-at.invariant.1
     (not_true _ c.if-not-step.true)
 
 pub returns-then-page-end-lt-ROOM-clause-paged : goal.returns-then-page-end-lt-ROOM-clause-paged
 returns-then-page-end-lt-ROOM-clause-paged c =
     playing_full
-    (playing_on c.loop-at.invariant.0 c.append-step.ensures c.command-command.ensures (omega (arith, c.if-s-at-lt2.false)) (omega (arith, c.loop-at.invariant.2)) c.loop-at.invariant.1
+    (playing_on c.loop-at.invariant.0 c.append-step.ensures c.command-command.ensures (omega (arith, c.if-s-at-lt2.false)) c.loop-at.invariant.1
     (not-false _ c.if-not-step.false))
 
 pub loop-at-preserved : goal.loop-at-preserved
 loop-at-preserved c = (
-  playing_on c.loop-at.invariant.0 c.append-step.ensures c.command-command.ensures (omega (arith, c.if-s-at-lt2.false)) (omega (arith, c.loop-at.invariant.2)) c.loop-at.invariant.1
+  playing_on c.loop-at.invariant.0 c.append-step.ensures c.command-command.ensures (omega (arith, c.if-s-at-lt2.false)) c.loop-at.invariant.1
       (not-false _ c.if-not-step.false),
   search rules,
   omega arith,
