@@ -1,8 +1,9 @@
 -- WHAT A COMMAND SAYS IS WHAT THE DEFINITIONS SAY, on a state that the module made, with buffers that are large enough.
 --   CommandSaid    a command was answered: what was said of it stands at the start of the line, and the state stands for the position after it
---   EndedOrSaid    it is command 0, which leaves the line as it was and ends the session, or it was answered
---   assume_line_right, back_line_right, explain_line_right   what the line of each kind of command says is right, and the state stands for what follows
---   command_said   any command is one of the two
+--   EndedOrSaid    the command is 0, which leaves the line as it was and ends the session, or it was answered
+--   assume_line_right, back_line_right   what the line says is what the definitions say, and the state stands for the position after it
+--   explain_line_right                   what the line says is what the definitions say
+--   command_said   any command is ended or said
 -- Assumes nothing.
 use mathlib.Core.Path.{◌≡◌, refl, sym, ap, ◌∙◌, subst}
 use mathlib.Core.Bool.{Bool, true, false, cond, ◌||◌}

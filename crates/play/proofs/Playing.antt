@@ -93,7 +93,7 @@ module _ {s : List ℕ} {first : ℕ} {opened : Header} {work₀ page₀ : List 
   playing_full p st = record { put = q.put; so_far = so_far_more q.within (q.continued p st) }
 
   -- where the commands that are left say nothing
-  pub playing_done : ((r : Position) → Commands r (drop at s) []) → {work' : List ℕ} (p : Position) → Stands opened work₀ p
+  playing_done : ((r : Position) → Commands r (drop at s) []) → {work' : List ℕ} (p : Position) → Stands opened work₀ p
       → Paged (Commands p (drop first s)) s (record { at = at; header = h; end = end; more = false }) work' page₀ page
   playing_done none p st =
       let c = q.continued p st in

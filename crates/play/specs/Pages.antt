@@ -1,10 +1,11 @@
 -- WHAT THE PAGES OF A SESSION HOLD.
---   Roomy                buffers that are large enough for every state and every answer, and a page for every line
---   Continued P s at h work text   more may follow: the state stands for a position, and `text`, with what the commands from `at` on say there behind it, has P
---   SoFar P s r work text          the session has come as far as r says: where it is over, `text` is the whole, and has P; else more may follow `text`
---   Paged P s r ..       a page whose text says so much of what has P
---   Appended             a command whose line was put into a page from place `at` on
---   Spoken P old new     a writer's known bytes grew by a text that has P
+--   Roomy                          buffers that are large enough for every state and every answer, and a page for every line
+--   Continued P s at h work text   more may follow: the state stands for a position, and `text`, and behind it what the commands from
+--                                  place `at` on say from that position, has P
+--   SoFar P s r work text          the session has come as far as r says: where it is over, `text` has P; else more may follow `text`
+--   Paged P s r ..                 a page, and its text as the `text` of SoFar
+--   Appended                       a command whose line was put into a page from place `at` on
+--   Spoken P old new               a writer's known bytes grew by a text that has P
 -- Assumes nothing.
 use Rattle.std.specs.Prelude.{◌≡◌, true, false, List, ◌++◌, length, take, drop, ℕ, ◌+◌, ◌≤◌, Option}
 use Rattle.std.specs.Io.KnownBytes.{Appends}
