@@ -5,7 +5,7 @@
 use mathlib.Core.Path.{◌≡◌, refl, sym, ap, ap₂, ◌∙◌}
 use mathlib.Core.Bool.{Bool}
 use mathlib.Core.List.{List}
-use Prim.Native.Nat.{ℕ, ◌/◌, ◌%◌}
+use Prim.Native.Nat.{ℕ}
 use native.Mathlib.Omega.{arith}
 use Rattle.std.specs.Prelude.{Result, Ok, Err}
 use Rattle.format.specs.Refusals.{answered}
@@ -18,7 +18,7 @@ use Rattle.lines.proofs.Puts.{put_text, put_same}
 use Rattle.parity.specs.Promises.{Stands, nothing_open}
 use Rattle.history.proofs.Determined.{open_determined, back_determined, AssumeRefusal, assume_determined, ExplainRefusal, explain_determined}
 use Rattle.dialogue.specs.declared.Step.{Step}
-use Rattle.dialogue.specs.Dialogue.{said_opening, said_assuming, said_backing, said_explaining, goes_on}
+use Rattle.dialogue.specs.Dialogue.{kind, operand, said_opening, said_assuming, said_backing, said_explaining, goes_on}
 use Rattle.dialogue.specs.Steps.{Begins, AssumeStep, BackStep, ExplainStep, Turns, ends, assumes, backs, explains}
 
 -- two lines that say the same
@@ -72,19 +72,19 @@ explain_same h work literals rows line v made {r} {r'} {literals₁} {literals�
     (step_same r r' (p.same ∙ sym q.same) l.1 (p.more ∙ sym q.more), d.clauses, d.numbers, l.0)
 
 module _ (h : Header) (work literals rows line : List ℕ) (command : ℕ) where
-  pub turn_same : (command / 16384 ≡ 1 → AssumeRefusal h work literals (command % 16384) ≡ 0 → (p : Position) × Stands h work p)
-      → (command / 16384 ≡ 3 → ExplainRefusal h work literals rows (command % 16384) ≡ 0 → (p : Position) × Stands h work p)
+  pub turn_same : (kind command ≡ 1 → AssumeRefusal h work literals (operand command) ≡ 0 → (p : Position) × Stands h work p)
+      → (kind command ≡ 3 → ExplainRefusal h work literals rows (operand command) ≡ 0 → (p : Position) × Stands h work p)
       → {r r' : Step} {work₁ work₂ literals₁ literals₂ rows₁ rows₂ line₁ line₂ : List ℕ}
       → Turns h work literals rows line command r work₁ literals₁ rows₁ line₁ → Turns h work literals rows line command r' work₂ literals₂ rows₂ line₂
       → (r ≡ r') × (literals₁ ≡ literals₂) × (rows₁ ≡ rows₂) × (line₁ ≡ line₂)
   turn_same m n (ends e) (ends f) = (refl, refl, refl, refl)
   turn_same m n (assumes e p) (assumes f q) =
-      let d = assume_same h work literals line (command % 16384) (m e) p q in
+      let d = assume_same h work literals line (operand command) (m e) p q in
       (d.0, d.1, refl, d.2)
   turn_same m n (backs e p) (backs f q) =
-      let d = back_same h work line (command % 16384) p q in
+      let d = back_same h work line (operand command) p q in
       (d.0, refl, refl, d.1)
-  turn_same m n (explains e p) (explains f q) = explain_same h work literals rows line (command % 16384) (n e) p q
+  turn_same m n (explains e p) (explains f q) = explain_same h work literals rows line (operand command) (n e) p q
   turn_same m n (ends e) (assumes f q) = absurd (omega arith)
   turn_same m n (ends e) (backs f q) = absurd (omega arith)
   turn_same m n (ends e) (explains f q) = absurd (omega arith)

@@ -5,7 +5,7 @@
 --   AssumeStep, BackStep, ExplainStep   a command other than 0
 --   Turns                   any command
 -- Assumes nothing.
-use Rattle.std.specs.Prelude.{◌≡◌, true, false, List, ℕ, ◌/◌, ◌%◌, ◌≤◌, length, Result, Ok, Err}
+use Rattle.std.specs.Prelude.{◌≡◌, true, false, List, ℕ, ◌≤◌, length, Result, Ok, Err}
 use Rattle.format.specs.Refusals.{answered}
 use Rattle.format.specs.declared.Refusal.{Refusal}
 use Rattle.judge.specs.declared.Header.{Header}
@@ -17,7 +17,7 @@ use Rattle.parity.specs.declared.Assuming.TheVariants.{Held, Conflict, Taken}
 use Rattle.parity.specs.declared.Explained.{Explained}
 use Rattle.parity.specs.Promises.{nothing_open, OpenPromise, AssumePromise, BackPromise, ExplainPromise}
 use Rattle.dialogue.specs.declared.Step.{Step}
-use Rattle.dialogue.specs.Dialogue.{said_opening, said_assuming, said_backing, said_explaining, goes_on}
+use Rattle.dialogue.specs.Dialogue.{kind, operand, said_opening, said_assuming, said_backing, said_explaining, goes_on}
 
 abbrev pub room : ℕ
 room = 16384
@@ -66,12 +66,13 @@ pub record ExplainStep (h : Header) (work literals rows line : List ℕ) (variab
   pub says : Put line 0 (text (said_explaining answer variable literals' rows')) line' step.end
   pub more : step.more ≡ true
 
--- the leading two bits of the command say which it is, the other fourteen its number
 pub data Turns (h : Header) (work literals rows line : List ℕ) (command : ℕ) : Step → List ℕ → List ℕ → List ℕ → List ℕ → Type 0 where
-  ends : command / 16384 ≡ 0 → Turns h work literals rows line command (record { header = h; end = 0; more = false }) work literals rows line
-  assumes : {step : Step} {work' literals' line' : List ℕ} → command / 16384 ≡ 1 → AssumeStep h work literals line (command % 16384) step work' literals' line'
+  ends : kind command ≡ 0 → Turns h work literals rows line command (record { header = h; end = 0; more = false }) work literals rows line
+  assumes : {step : Step} {work' literals' line' : List ℕ}
+      → kind command ≡ 1 → AssumeStep h work literals line (operand command) step work' literals' line'
       → Turns h work literals rows line command step work' literals' rows line'
-  backs : {step : Step} {work' line' : List ℕ} → command / 16384 ≡ 2 → BackStep h work line (command % 16384) step work' line'
+  backs : {step : Step} {work' line' : List ℕ} → kind command ≡ 2 → BackStep h work line (operand command) step work' line'
       → Turns h work literals rows line command step work' literals rows line'
-  explains : {step : Step} {literals' rows' line' : List ℕ} → command / 16384 ≡ 3 → ExplainStep h work literals rows line (command % 16384) step literals' rows' line'
+  explains : {step : Step} {literals' rows' line' : List ℕ}
+      → kind command ≡ 3 → ExplainStep h work literals rows line (operand command) step literals' rows' line'
       → Turns h work literals rows line command step work literals' rows' line'

@@ -15,6 +15,9 @@ use parity::{Assuming, Explained, Opening, Reply};
 // So many bytes hold any line.
 pub const ROOM: usize = 16384;
 
+// So many numbers a command can have: its last fourteen bits.
+const OPERANDS: u16 = 16384;
+
 // The commands, by their leading two bits.
 const END: u16 = 0;
 
@@ -35,7 +38,7 @@ pub struct Step {
 
 // ---- the input
 
-// How many bytes of the input its sheet has.
+// Returns how many bytes of the input its sheet has.
 pub fn sheet_end(s: &[u8]) -> usize
     ensures { result ≡ sheet_end s.now }
 {
@@ -46,7 +49,7 @@ pub fn sheet_end(s: &[u8]) -> usize
     head.size().min(s.len())
 }
 
-// The command of two bytes.
+// Joins two bytes into a command, top bits first.
 pub fn command(high: u8, low: u8) -> u16
     ensures { result ≡ command_of high low }
 {
@@ -55,7 +58,7 @@ pub fn command(high: u8, low: u8) -> u16
 
 // ---- the line of an answer
 
-// The line of an opening stands at the start of `line`; where it ends.
+// Puts the line of an opening at the start of `line`; returns where it ends.
 fn line_of_opening(
     line: &mut [u8],
     answer: Result<Opening, Refusal>,
@@ -73,7 +76,7 @@ fn line_of_opening(
     }
 }
 
-// The line of an assume stands at the start of `line`; where it ends.
+// Puts the line of an assume at the start of `line`; returns where it ends.
 fn line_of_assuming(line: &mut [u8], answer: Result<Assuming, Refusal>, literals: &[u64]) -> usize
     requires { (room ≤ length line.old) × AssumingFits answer literals.now }
     ensures { Put line.old 0 (text (said_assuming answer literals.now)) line.new result }
@@ -86,7 +89,7 @@ fn line_of_assuming(line: &mut [u8], answer: Result<Assuming, Refusal>, literals
     }
 }
 
-// The line of a back stands at the start of `line`; where it ends.
+// Puts the line of a back at the start of `line`; returns where it ends.
 fn line_of_backing(line: &mut [u8], answer: Result<(), Refusal>, depth: usize) -> usize
     requires { room ≤ length line.old }
     ensures { Put line.old 0 (text (said_backing answer depth)) line.new result }
@@ -97,7 +100,7 @@ fn line_of_backing(line: &mut [u8], answer: Result<(), Refusal>, depth: usize) -
     }
 }
 
-// The line of an explain of `variable` stands at the start of `line`; where it ends.
+// Puts the line of an explain of `variable` at the start of `line`; returns where it ends.
 fn line_of_explaining(
     line: &mut [u8],
     answer: Result<Explained, Refusal>,
@@ -118,7 +121,7 @@ fn line_of_explaining(
 
 // ---- the steps
 
-// The opening: `s` is taken for the sheet.
+// Opens the sheet `s`, and puts its line at the start of `line`; the session goes on where the opening is neither refused nor unsatisfiable.
 pub fn begin(
     s: &[u8],
     store: &mut [u64],
@@ -137,7 +140,7 @@ pub fn begin(
     Step { header, end, more }
 }
 
-// An assume of the literal `code` and its line, after which the session goes on.
+// Assumes the literal `code`, and puts its line at the start of `line`; the session goes on.
 fn assume(h: Header, work: &mut [u64], literals: &mut [u64], line: &mut [u8], code: usize) -> Step
     requires { room ≤ length line.old }
     ensures { AssumeStep h work.old literals.old line.old code result work.new literals.new line.new }
@@ -151,7 +154,7 @@ fn assume(h: Header, work: &mut [u64], literals: &mut [u64], line: &mut [u8], co
     }
 }
 
-// A back to `depth` and its line, after which the session goes on.
+// Goes back to `depth`, and puts its line at the start of `line`; the session goes on.
 fn back(h: Header, work: &mut [u64], line: &mut [u8], depth: usize) -> Step
     requires { room ≤ length line.old }
     ensures { BackStep h work.old line.old depth result work.new line.new }
@@ -165,7 +168,7 @@ fn back(h: Header, work: &mut [u64], line: &mut [u8], depth: usize) -> Step
     }
 }
 
-// An explain of `variable` and its line, after which the session goes on with the header that it had.
+// Explains `variable`, and puts its line at the start of `line`; the session goes on with the header that it had.
 fn explain(
     h: Header,
     work: &[u64],
@@ -187,7 +190,8 @@ fn explain(
     }
 }
 
-// A command: the leading two bits say which it is, the other fourteen its number.
+// Carries out a command, whose leading two bits say which it is and whose other fourteen its number, and puts its line at the start of
+// `line`; command 0 has no line, and ends the session.
 pub fn turn(
     h: Header,
     work: &mut [u64],
@@ -200,8 +204,8 @@ pub fn turn(
     ensures { Turns h work.old literals.old rows.old line.old command result
         work.new literals.new rows.new line.new }
 {
-    let number = (command % 16384) as usize;
-    match command / 16384 {
+    let number = (command % OPERANDS) as usize;
+    match command / OPERANDS {
         END => Step {
             header: h,
             end: 0,

@@ -33,8 +33,9 @@ consumed_on (Some left) (Some more) None xs ys f g = absurd g
 consumed_on (Some left) (Some more) (Some rest) xs ys f g = f ∙ ap (λ (z : List ℕ). xs ++ z) g ∙ sym (append_assoc xs ys rest)
 
 -- what is said of the bytes that were read is said of the first that the reader had
-pub heard : {E : Type 0} (r : Result (Unit {0}) E) (known : Option (List ℕ)) (n : ℕ) (buffer : List ℕ) (P : List ℕ → Type 0) → length buffer ≡ most_bytes
-    → IfSome known (λ bytes. take n buffer ≡ take (length buffer) bytes) → OnOk r (P (take n buffer)) → OnOk r (IfSome known (λ bytes. P (take most_bytes bytes)))
+pub heard : {E : Type 0} (r : Result (Unit {0}) E) (known : Option (List ℕ)) (n : ℕ) (buffer : List ℕ) (P : List ℕ → Type 0)
+    → length buffer ≡ most_bytes → IfSome known (λ bytes. take n buffer ≡ take (length buffer) bytes)
+    → OnOk r (P (take n buffer)) → OnOk r (IfSome known (λ bytes. P (take most_bytes bytes)))
 heard (Err e) known n buffer P l f s = tt
 heard (Ok x) None n buffer P l f s = tt
 heard (Ok x) (Some bytes) n buffer P l f s = subst P (f ∙ ap (λ (i : ℕ). take i bytes) l) s

@@ -3,11 +3,11 @@
 --   command_one, commands_one, session_one      and there is one
 --   one_text         THE STATEMENT: of every input of bytes
 --   spoken_same      two writers that held the same bytes, and grew by the session on one input, hold the same bytes
+--   Bytes s          a list of bytes
 --   next_reached     the position after a command is one that calls lead to
 -- Assumes nothing.
 use mathlib.Core.Path.{◌≡◌, refl, sym, ap, ap₂, ◌∙◌, subst}
 use mathlib.Core.Logic.{◌⊎◌, inl, inr, ◌≢◌}
-use mathlib.Core.Bool.{Bool, true, false, true≢false}
 use mathlib.Core.List.{List, [], ◌∷◌, ◌++◌}
 use Prim.Native.Nat.{ℕ, zero, suc, ◌/◌, ◌<◌, ◌≤◌}
 use native.Mathlib.Omega.{arith}
@@ -15,7 +15,7 @@ use lib.ListN.{length, take, drop}
 use Rattle.std.specs.Prelude.{Option, None, Some}
 use Rattle.gf2.specs.Lists.{All}
 use Rattle.gf2.specs.Rows.{Var}
-use Rattle.gf2.specs.Answers.{Position, start, Literal, moved, withdrawn, held, conflict, implied, ExplainAnswer, AnswersExplain, OpenAnswer, opened, unsatisfiable, AnswersOpen, Unexplained, Reached}
+use Rattle.gf2.specs.Answers.{variable, Position, start, Literal, moved, withdrawn, held, conflict, implied, ExplainAnswer, AnswersExplain, OpenAnswer, opened, unsatisfiable, AnswersOpen, Unexplained, Reached}
 use Rattle.gf2.proofs.Sums.{same_dec}
 use Rattle.gf2.proofs.Sure.{One, open_one, assume_one, explain_one}
 use Rattle.gf2.proofs.Unique.{open_unique, assume_unique}
@@ -24,8 +24,8 @@ use Rattle.gf2.proofs.Reach.{reached_solution, opened_reached, assumed_reached, 
 use Rattle.format.specs.Sheet.{n_of, sheet_rows}
 use Rattle.lines.specs.Lines.{Said, text}
 use Rattle.history.proofs.Demand.{RefusedOrNot, refused_or}
-use Rattle.dialogue.specs.Dialogue.{sheet_end, command_of}
-use Rattle.play.specs.Session.{most_bytes, sheet_part, command_part, sheet_refusal, opening_line, assume_line, Command, assumed, no_literal, gone_back, too_deep, explained, unexplained, no_variable, kind, operand, Commands, over, ended, then, Session, Says, refused, contradicted, commanded}
+use Rattle.dialogue.specs.Dialogue.{sheet_end, command_of, kind, operand, opening_line, assume_line}
+use Rattle.play.specs.Session.{most_bytes, sheet_part, command_part, sheet_refusal, Command, assumed, no_literal, gone_back, too_deep, explained, unexplained, no_variable, Commands, over, ended, then, Session, SessionOn, Says, refused, contradicted, commanded}
 use Rattle.play.specs.Pages.{Spoken}
 use Rattle.std.proofs.lemmas.Bool.{cases_lt}
 
@@ -33,7 +33,7 @@ use Rattle.std.proofs.lemmas.Bool.{cases_lt}
 command_same : (p : Position) → Reached p → {k i : ℕ} {a b : Said} {q r : Position} → Command p k i a q → Command p k i b r → (a ≡ b) × (q ≡ r)
 command_same p g (assumed {l} x m f) (assumed y n h) =
     let e = assume_unique p (reached_solution p g) l x y f h in
-    (ap (assume_line l) e, ap (moved p l) e)
+    (ap (assume_line (variable l)) e, ap (moved p l) e)
 command_same p g (assumed x m f) (no_literal n) = absurd (n m)
 command_same p g (no_literal n) (assumed x m f) = absurd (n m)
 command_same p g (no_literal n) (no_literal m) = (refl, refl)
@@ -120,7 +120,7 @@ assume_answered : (p : Position) → Reached p → (l : ℕ) → Answer p 1 l
 assume_answered p g l = go (literal_or p.n (l / 2))
   where
     go : Literal p.n l ⊎ (Literal p.n l → ⊥) → Answer p 1 l
-    go (inl m) = let a = assume_one p g l m in (assume_line l a.0, moved p l a.0, assumed a.0 m a.1)
+    go (inl m) = let a = assume_one p g l m in (assume_line (variable l) a.0, moved p l a.0, assumed a.0 m a.1)
     go (inr n) = (Said.refused 8, p, no_literal n)
 
 back_answered : (p : Position) (d : ℕ) → Answer p 2 d
@@ -158,7 +158,8 @@ commands_one p g [] b = ([], over (omega arith))
 commands_one p g (high ∷ []) b = ([], over (omega arith))
 commands_one p g (high ∷ low ∷ bytes) b = go (λ q r. commands_one q r bytes b.1.1) (same_dec (kind (command_of high low)) 0)
   where
-    go : ((q : Position) → Reached q → (t : List ℕ) × Commands q bytes t) → (kind (command_of high low) ≡ 0) ⊎ (kind (command_of high low) ≢ 0) → (t : List ℕ) × Commands p (high ∷ low ∷ bytes) t
+    go : ((q : Position) → Reached q → (t : List ℕ) × Commands q bytes t) → (kind (command_of high low) ≡ 0) ⊎ (kind (command_of high low) ≢ 0)
+        → (t : List ℕ) × Commands p (high ∷ low ∷ bytes) t
     go more (inl e) = ([], ended e)
     go more (inr n) =
         let h = b.0 in
@@ -199,7 +200,8 @@ one_text input b =
     session_one (sheet_part s) (command_part s) (all_drop (sheet_end s) s (all_take most_bytes input b))
 
 -- so what a writer holds at the end is determined, where it was known at the start
-pub spoken_same : {s xs : List ℕ} {new new' : Option (List ℕ)} → Spoken s (Some xs) new → Spoken s (Some xs) new' → new ≡ new'
-spoken_same {xs = xs} {new = None} p q = absurd p.grown
-spoken_same {xs = xs} {new = Some ys} {new' = None} p q = absurd q.grown
-spoken_same {xs = xs} {new = Some ys} {new' = Some zs} p q = ap Some (p.grown ∙ ap (λ (t : List ℕ). xs ++ t) (session_same p.session q.session) ∙ sym q.grown)
+pub spoken_same : (s : List ℕ) {xs : List ℕ} {new new' : Option (List ℕ)}
+    → Spoken (SessionOn s) (Some xs) new → Spoken (SessionOn s) (Some xs) new' → new ≡ new'
+spoken_same s {new = None} p q = absurd p.grown
+spoken_same s {new = Some ys} {new' = None} p q = absurd q.grown
+spoken_same s {xs} {new = Some ys} {new' = Some zs} p q = ap Some (p.grown ∙ ap (λ (t : List ℕ). xs ++ t) (session_same p.says q.says) ∙ sym q.grown)

@@ -1,9 +1,11 @@
 -- WHAT THE PAGES OF A SESSION HOLD.
---   Roomy                buffers that are large enough for every sheet and every answer, and a page for every line
---   Paged P s r ..       a page of a text that has P, r saying how far the session came: the whole of it, or more may follow
---   Continued P s r ..   more may follow: the state stands for a position, and the text of the page, with what the commands from there on say behind it, has P
---   Appended             a command whose line was put into a page from place `at` on
---   Spoken s old new     a writer's known bytes grew by what the session on s says
+--   Roomy                          buffers that are large enough for every state and every answer, and a page for every line
+--   Continued P s at h work text   more may follow: the state stands for a position, and `text`, and behind it what the commands from
+--                                  place `at` on say from that position, has P
+--   SoFar P s r work text          the session has come as far as r says: where it is over, `text` has P; else more may follow `text`
+--   Paged P s r ..                 a page, and its text as the `text` of SoFar
+--   Appended                       a command whose line was put into a page from place `at` on
+--   Spoken P old new               a writer's known bytes grew by a text that has P
 -- Assumes nothing.
 use Rattle.std.specs.Prelude.{◌≡◌, true, false, List, ◌++◌, length, take, drop, ℕ, ◌+◌, ◌≤◌, Option}
 use Rattle.std.specs.Io.KnownBytes.{Appends}
@@ -13,8 +15,8 @@ use Rattle.lines.specs.Lines.{Put}
 use Rattle.parity.specs.Promises.{Stands}
 use Rattle.dialogue.specs.Steps.{room, Turns}
 use Rattle.dialogue.specs.declared.Step.{Step}
-use Rattle.play.specs.declared.Played.{Played}
-use Rattle.play.specs.Session.{SessionOn, Commands}
+use Rattle.play.specs.declared.Progress.{Progress}
+use Rattle.play.specs.Session.{Commands}
 
 pub record Roomy (work literals rows page : List ℕ) : Type 0 where
   pub work_long : 4096 ≤ length work
@@ -22,17 +24,20 @@ pub record Roomy (work literals rows page : List ℕ) : Type 0 where
   pub rows_long : 256 ≤ length rows
   pub page_long : room ≤ length page
 
-pub record Continued (P : List ℕ → Type 0) (s : List ℕ) (r : Played) (work' page' : List ℕ) : Type 0 where
+pub record Continued (P : List ℕ → Type 0) (s : List ℕ) (at : ℕ) (h : Header) (work text : List ℕ) : Type 0 where
   pub position : Position
-  pub stands : Stands r.header work' position
-  pub after : (more : List ℕ) → Commands position (drop r.at s) more → P (take r.end page' ++ more)
+  pub stands : Stands h work position
+  pub after : (more : List ℕ) → Commands position (drop at s) more → P (text ++ more)
+
+pub record SoFar (P : List ℕ → Type 0) (s : List ℕ) (r : Progress) (work text : List ℕ) : Type 0 where
+  pub within : r.at ≤ length s
+  pub whole : r.more ≡ false → P text
+  pub continued : r.more ≡ true → Continued P s r.at r.header work text
 
 -- `put` says that the text of the page is what stands in it before `end`, which lies within it; that it keeps its length, and what stood in it from `end` on
-pub record Paged (P : List ℕ → Type 0) (s : List ℕ) (r : Played) (work' page page' : List ℕ) : Type 0 where
+pub record Paged (P : List ℕ → Type 0) (s : List ℕ) (r : Progress) (work' page page' : List ℕ) : Type 0 where
   pub put : Put page 0 (take r.end page') page' r.end
-  pub within : r.at ≤ length s
-  pub whole : r.more ≡ false → P (take r.end page')
-  pub continued : r.more ≡ true → Continued P s r work' page'
+  pub so_far : SoFar P s r work' (take r.end page')
 
 -- as `turn` left it in a line buffer of its own, which was the rest of the page
 pub record Appended (h : Header) (work literals rows page : List ℕ) (at command : ℕ) (step : Step) (work' literals' rows' page' : List ℕ) : Type 0 where
@@ -42,7 +47,7 @@ pub record Appended (h : Header) (work literals rows page : List ℕ) (at comman
   pub turns : Turns h work literals rows (drop at page) command (record { header = step.header; end = end; more = step.more }) work' literals' rows' line'
   pub joined : page' ≡ take at page ++ line'
 
-pub record Spoken (s : List ℕ) (old new : Option (List ℕ)) : Type 0 where
+pub record Spoken (P : List ℕ → Type 0) (old new : Option (List ℕ)) : Type 0 where
   pub text : List ℕ
-  pub session : SessionOn s text
+  pub says : P text
   pub grown : Appends old new text

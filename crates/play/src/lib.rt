@@ -6,7 +6,7 @@ ghost use Rattle.io.specs.Counts.{IsPrefixLen};
 ghost use Rattle.gf2.specs.Answers.{Position};
 ghost use Rattle.parity.specs.Promises.{Stands};
 ghost use Rattle.dialogue.specs.Steps.{room};
-ghost use Rattle.play.specs.Session.{most_bytes, SessionOn, Commands};
+ghost use Rattle.play.specs.Session.{SessionOn, Says, Commands};
 ghost use Rattle.play.specs.Pages.{Roomy, Appended, Paged, Spoken};
 
 use dialogue::{ROOM, Step};
@@ -14,16 +14,27 @@ use judge::Header;
 use std::io;
 use std::io::{Read, Write};
 
+// The most variables.
+const MAX_VARS: usize = 512;
+// The most rows.
+const MAX_ROWS: usize = 256;
+// Words of a row store that has room for the rows of every sheet.
+const STORE_WORDS: usize = 9 * MAX_ROWS;
+// Bytes of a page.
+const PAGE: usize = 65536;
+// So many bytes of the input count.
+const MOST_BYTES: usize = 65536;
+
 // How far a session has come: where its commands go on, the header there, where the text of the page ends, and whether more may follow.
 #[derive(Clone, Copy)]
-struct Played {
+struct Progress {
     at: usize,
     header: Header,
     end: usize,
     more: bool,
 }
 
-// The opening, on the sheet at the start of the input; its line is the first page.
+// Opens the sheet at the start of the input, and puts its line into the page as the first.
 fn start(
     s: &[u8],
     store: &mut [u64],
@@ -31,13 +42,13 @@ fn start(
     literals: &mut [u64],
     rows: &mut [u64],
     page: &mut [u8],
-) -> Played
+) -> Progress
     requires { (2304 ≤ length store.old) × Roomy work.old literals.old rows.old page.old }
     ensures { Paged (SessionOn s.now) s.now result work.new page.old page.new }
 {
     let at = dialogue::sheet_end(s);
     let Step { header, end, more } = dialogue::begin(&s[..at], store, work, literals, rows, page);
-    Played {
+    Progress {
         at,
         header,
         end,
@@ -45,7 +56,7 @@ fn start(
     }
 }
 
-// A command, whose line stands in the page from place `at` on.
+// Carries out a command, and puts its line into the page from place `at` on.
 fn append(
     h: Header,
     work: &mut [u64],
@@ -73,7 +84,7 @@ fn append(
     }
 }
 
-// The commands from `first` on, until the session is over or the page may have no room for the next line.
+// Carries out the commands from `first` on, until the session is over or the page may have no room for the next line.
 fn play(
     s: &[u8],
     first: usize,
@@ -82,7 +93,7 @@ fn play(
     literals: &mut [u64],
     rows: &mut [u64],
     page: &mut [u8],
-) -> Played
+) -> Progress
     requires { (first ≤ length s.now) × Roomy work.old literals.old rows.old page.old }
     ensures onward { result.more ≡ true → first < result.at }
     ensures paged { (p : Position) → Stands opened work.old p → Paged (Commands p (drop first s.now)) s.now result work.new page.old page.new }
@@ -106,7 +117,7 @@ fn play(
             break true;
         }
     };
-    Played {
+    Progress {
         at,
         header,
         end,
@@ -114,17 +125,17 @@ fn play(
     }
 }
 
-// Writes the session on input `s`, page by page. The buffers are large enough for every sheet and every answer: no call is refused
-// with 6 or 7, for `Session` has no such line.
+// Writes what the session on `s` says to `out`, page by page. The buffers are large enough for every sheet and every answer: no call is
+// refused with 6 or 7, for `Session` has no such line.
 fn speak<W: Write>(s: &[u8], out: &mut W) -> io::Result<()>
-    ensures { OnOk result (Spoken s.now (W.contents out.old) (W.contents out.new)) }
+    ensures { OnOk result (Spoken (SessionOn s.now) (W.contents out.old) (W.contents out.new)) }
 {
-    let mut store = [0u64; 2304];
+    let mut store = [0u64; STORE_WORDS];
     let mut work = [0u64; tableau::SIZE];
-    let mut literals = [0u64; 512];
-    let mut rows = [0u64; 256];
-    let mut page = [0u8; 65536];
-    let mut played = start(
+    let mut literals = [0u64; MAX_VARS];
+    let mut rows = [0u64; MAX_ROWS];
+    let mut page = [0u8; PAGE];
+    let mut progress = start(
         s,
         &mut store,
         &mut work,
@@ -132,23 +143,23 @@ fn speak<W: Write>(s: &[u8], out: &mut W) -> io::Result<()>
         &mut rows,
         &mut page,
     );
-    out.write_all(&page[..played.end])?;
-    while played.more {
-        played = play(
+    out.write_all(&page[..progress.end])?;
+    while progress.more {
+        progress = play(
             s,
-            played.at,
-            played.header,
+            progress.at,
+            progress.header,
             &mut work,
             &mut literals,
             &mut rows,
             &mut page,
         );
-        out.write_all(&page[..played.end])?;
+        out.write_all(&page[..progress.end])?;
     }
     Ok(())
 }
 
-// Fills the buffer from its front until it is full or the input ends; how many bytes came.
+// Fills the buffer from its front until it is full or the input ends; returns how many bytes came.
 fn filled<R: Read>(input: &mut R, buffer: &mut [u8]) -> io::Result<usize>
     ensures within { IfOk result (λ n. IsPrefixLen n buffer.new) }
     ensures bytes { IfOk result (λ n. IfSome (R.remaining input.old) (λ bytes. take n buffer.new ≡ take (length buffer.new) bytes)) }
@@ -164,11 +175,11 @@ fn filled<R: Read>(input: &mut R, buffer: &mut [u8]) -> io::Result<usize>
     Ok(done)
 }
 
-// The session program: what the session on the first 65,536 bytes of the input says goes to `out`. An error of either is handed on.
+// Writes what the session on the first 65,536 bytes of the input says to `out`; hands on an error of either.
 pub fn session<R: Read, W: Write>(input: &mut R, out: &mut W) -> io::Result<()>
-    ensures { OnOk result (IfSome (R.remaining input.old) (λ bytes. Spoken (take most_bytes bytes) (W.contents out.old) (W.contents out.new))) }
+    ensures { OnOk result (IfSome (R.remaining input.old) (λ bytes. Spoken (Says bytes) (W.contents out.old) (W.contents out.new))) }
 {
-    let mut buffer = [0u8; 65536];
+    let mut buffer = [0u8; MOST_BYTES];
     let n = filled(input, &mut buffer)?;
     speak(&buffer[..n], out)
 }

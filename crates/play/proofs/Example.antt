@@ -1,7 +1,7 @@
--- THE WORKED SESSION of document 01, from its seventeen bytes to its six lines.
---   worked_input, worked_text   as document 01 prints them
---   worked       THE STATEMENT: the session on these bytes says this text
---   worked_only  and no other
+-- THE SESSION of document 01, from its seventeen bytes to its six lines.
+--   example_input, example_text   as document 01 prints them
+--   example       THE STATEMENT: the session on these bytes says this text
+--   example_only  and no other
 -- Assumes nothing.
 use mathlib.Core.Path.{◌≡◌, refl}
 use mathlib.Core.List.{List, [], ◌∷◌}
@@ -17,22 +17,24 @@ use Rattle.play.specs.Session.{Says, ended, then, commanded, assumed, gone_back,
 use Rattle.play.proofs.OneText.{session_same}
 
 -- `01 80 72 D6 1A 40 02 C0 03 40 06 80 00 40 08 00 00`
-abbrev pub worked_input : List ℕ
-worked_input = 1 ∷ 128 ∷ 114 ∷ 214 ∷ 26 ∷ 64 ∷ 2 ∷ 192 ∷ 3 ∷ 64 ∷ 6 ∷ 128 ∷ 0 ∷ 64 ∷ 8 ∷ 0 ∷ 0 ∷ []
+abbrev pub example_input : List ℕ
+example_input = 1 ∷ 128 ∷ 114 ∷ 214 ∷ 26 ∷ 64 ∷ 2 ∷ 192 ∷ 3 ∷ 64 ∷ 6 ∷ 128 ∷ 0 ∷ 64 ∷ 8 ∷ 0 ∷ 0 ∷ []
 
-abbrev pub worked_text : List ℕ
-worked_text = word "open 3 implied 0\nimplied 1 7\nexplain 3 clause 7 3 rows 1 3\nconflict 3\nback 0\nimplied 0\n"
+abbrev pub example_text : List ℕ
+example_text = word "open 3 implied 0\nimplied 1 7\nexplain 3 clause 7 3 rows 1 3\nconflict 3\nback 0\nimplied 0\n"
 
 -- the run of the settled table that this session is
 abbrev run : List Event
-run = sheet system_b_sheet (opened 3 []) ∷ assumes 2 (implied (7 ∷ [])) ∷ explains 3 (because (7 ∷ 3 ∷ []) (1 ∷ 3 ∷ [])) ∷ assumes 6 conflict ∷ backs 0 ∷ assumes 8 (implied []) ∷ []
+run =
+    sheet system_b_sheet (opened 3 []) ∷ assumes 2 (implied (7 ∷ [])) ∷ explains 3 (because (7 ∷ 3 ∷ []) (1 ∷ 3 ∷ []))
+    ∷ assumes 6 conflict ∷ backs 0 ∷ assumes 8 (implied []) ∷ []
 
 right : Runs none run
 right = settled.1.1.1.1.1.1.1.0
 
-pub worked : Says worked_input worked_text
+pub example : Says example_input example_text
 unfolding odd bits_n bits_of value_of dec spaced
-worked =
+example =
     let f = right in
     commanded refl f.0
     (then (assumed (implied (7 ∷ [])) f.1.0.0 f.1.0.1)
@@ -42,5 +44,5 @@ worked =
     (then (assumed (implied []) f.1.1.1.1.1.0.0 f.1.1.1.1.1.0.1)
     (ended refl))))))
 
-pub worked_only : (t : List ℕ) → Says worked_input t → t ≡ worked_text
-worked_only t h = session_same h worked
+pub example_only : (t : List ℕ) → Says example_input t → t ≡ example_text
+example_only t h = session_same h example
