@@ -3,6 +3,8 @@ pub mod Continuing
 pub mod Starting
 pub mod Playing
 pub mod Filling
+pub mod Putting
 pub mod Speaking
 pub mod OneText
+pub mod Events
 pub mod Example

@@ -189,7 +189,7 @@ all_take zero s b = tt
 all_take (suc k) [] b = b
 all_take (suc k) (x ∷ s) b = (b.0, all_take k s b.1)
 
-all_drop : (k : ℕ) (s : List ℕ) → Bytes s → Bytes (drop k s)
+pub all_drop : (k : ℕ) (s : List ℕ) → Bytes s → Bytes (drop k s)
 all_drop zero s b = b
 all_drop (suc k) [] b = b
 all_drop (suc k) (x ∷ s) b = all_drop k s b.1

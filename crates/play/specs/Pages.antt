@@ -6,6 +6,8 @@
 --   Paged P s r ..                 a page, and its text as the `text` of SoFar
 --   Appended                       a command whose line was put into a page from place `at` on
 --   Spoken P old new               a writer's known bytes grew by a text that has P
+--   InPart old new text            they grew by a front of the text
+--   Begun P old new                they grew by a front of the text that has P, where there is one
 -- Assumes nothing.
 use Rattle.std.specs.Prelude.{◌≡◌, true, false, List, ◌++◌, length, take, drop, ℕ, ◌+◌, ◌≤◌, Option}
 use Rattle.std.specs.Io.KnownBytes.{Appends}
@@ -51,3 +53,9 @@ pub record Spoken (P : List ℕ → Type 0) (old new : Option (List ℕ)) : Type
   pub text : List ℕ
   pub says : P text
   pub grown : Appends old new text
+
+abbrev pub InPart : Option (List ℕ) → Option (List ℕ) → List ℕ → Type 0
+InPart old new text = (k : ℕ) × (k ≤ length text) × Appends old new (take k text)
+
+abbrev pub Begun : (List ℕ → Type 0) → Option (List ℕ) → Option (List ℕ) → Type 0
+Begun P old new = (text : List ℕ) → P text → InPart old new text

@@ -1,13 +1,14 @@
 // A session in pages: the lines of one command after another are put into a page, and each page is written as soon as it is full.
 #![tactic(auto)]
 
-ghost use Rattle.std.specs.Prelude.{◌≡◌, ◌+◌, ◌≤◌, ◌<◌, IfOk, IfSome, OnOk, length, take, drop, true};
+ghost use Rattle.std.specs.Prelude.{◌≡◌, ◌+◌, ◌≤◌, ◌<◌, IfOk, IfSome, OnOk, OnErr, length, take, drop, true};
 ghost use Rattle.io.specs.Counts.{IsPrefixLen};
+ghost use Rattle.std.specs.Io.KnownBytes.{Appends, Consumes};
 ghost use Rattle.gf2.specs.Answers.{Position};
 ghost use Rattle.parity.specs.Promises.{Stands};
 ghost use Rattle.dialogue.specs.Steps.{room};
-ghost use Rattle.play.specs.Session.{SessionOn, Says, Commands};
-ghost use Rattle.play.specs.Pages.{Roomy, Appended, Paged, Spoken};
+ghost use Rattle.play.specs.Session.{most_bytes, SessionOn, Says, Commands};
+ghost use Rattle.play.specs.Pages.{Roomy, Appended, Paged, Spoken, InPart, Begun};
 
 use dialogue::{ROOM, Step};
 use judge::Header;
@@ -96,6 +97,7 @@ fn play(
 ) -> Progress
     requires { (first ≤ length s.now) × Roomy work.old literals.old rows.old page.old }
     ensures onward { result.more ≡ true → first < result.at }
+    ensures full { result.more ≡ true → length page.new < result.end + room }
     ensures paged { (p : Position) → Stands opened work.old p → Paged (Commands p (drop first s.now)) s.now result work.new page.old page.new }
 {
     let mut header = opened;
@@ -125,10 +127,27 @@ fn play(
     }
 }
 
+// Writes the bytes to `out`; where that fails, a front of them is written.
+fn put<W: Write>(bytes: &[u8], out: &mut W) -> io::Result<()>
+    ensures whole { OnOk result (Appends (W.contents out.old) (W.contents out.new) bytes.now) }
+    ensures front { OnErr result (InPart (W.contents out.old) (W.contents out.new) bytes.now) }
+{
+    let mut done = 0;
+    while done < bytes.len() {
+        let n = out.write(&bytes[done..])?;
+        if n == 0 {
+            return Err(io::Error::from(io::ErrorKind::WriteZero));
+        }
+        done += n;
+    }
+    Ok(())
+}
+
 // Writes what the session on `s` says to `out`, page by page. The buffers are large enough for every sheet and every answer: no call is
-// refused with 6 or 7, for `Session` has no such line.
+// refused with 6 or 7, for `Session` has no such line. Where a write fails, a front of the text is written.
 fn speak<W: Write>(s: &[u8], out: &mut W) -> io::Result<()>
-    ensures { OnOk result (Spoken (SessionOn s.now) (W.contents out.old) (W.contents out.new)) }
+    ensures whole { OnOk result (Spoken (SessionOn s.now) (W.contents out.old) (W.contents out.new)) }
+    ensures front { OnErr result (Begun (SessionOn s.now) (W.contents out.old) (W.contents out.new)) }
 {
     let mut store = [0u64; STORE_WORDS];
     let mut work = [0u64; tableau::SIZE];
@@ -143,7 +162,7 @@ fn speak<W: Write>(s: &[u8], out: &mut W) -> io::Result<()>
         &mut rows,
         &mut page,
     );
-    out.write_all(&page[..progress.end])?;
+    put(&page[..progress.end], out)?;
     while progress.more {
         progress = play(
             s,
@@ -154,7 +173,7 @@ fn speak<W: Write>(s: &[u8], out: &mut W) -> io::Result<()>
             &mut rows,
             &mut page,
         );
-        out.write_all(&page[..progress.end])?;
+        put(&page[..progress.end], out)?;
     }
     Ok(())
 }
@@ -163,6 +182,7 @@ fn speak<W: Write>(s: &[u8], out: &mut W) -> io::Result<()>
 fn filled<R: Read>(input: &mut R, buffer: &mut [u8]) -> io::Result<usize>
     ensures within { IfOk result (λ n. IsPrefixLen n buffer.new) }
     ensures bytes { IfOk result (λ n. IfSome (R.remaining input.old) (λ bytes. take n buffer.new ≡ take (length buffer.new) bytes)) }
+    ensures taken { IfOk result (λ n. Consumes (R.remaining input.old) (R.remaining input.new) (take n buffer.new)) }
 {
     let mut done = 0;
     while done < buffer.len() {
@@ -177,7 +197,9 @@ fn filled<R: Read>(input: &mut R, buffer: &mut [u8]) -> io::Result<usize>
 
 // Writes what the session on the first 65,536 bytes of the input says to `out`; hands on an error of either.
 pub fn session<R: Read, W: Write>(input: &mut R, out: &mut W) -> io::Result<()>
-    ensures { OnOk result (IfSome (R.remaining input.old) (λ bytes. Spoken (Says bytes) (W.contents out.old) (W.contents out.new))) }
+    ensures whole { OnOk result (IfSome (R.remaining input.old) (λ bytes. Spoken (Says bytes) (W.contents out.old) (W.contents out.new))) }
+    ensures front { OnErr result (IfSome (R.remaining input.old) (λ bytes. Begun (Says bytes) (W.contents out.old) (W.contents out.new))) }
+    ensures left { OnOk result (IfSome (R.remaining input.old) (λ bytes. R.remaining input.new ≡ Some (drop most_bytes bytes))) }
 {
     let mut buffer = [0u8; MOST_BYTES];
     let n = filled(input, &mut buffer)?;
