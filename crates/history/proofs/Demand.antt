@@ -1,7 +1,6 @@
 -- DEMAND 3, from the promises alone: after any calls, each answer is what the definitions give for what is open, and the state matches what is then open.
--- Each call is lent as many words of one memory as its caller says, and the state may be copied between calls.
---   some_one, none_some   an answer, or none; RefusedOrNot, refused_or and refused_is of format are passed on
---   refused_right    the refusals of a list of checks are right
+-- Each call is lent as many words of one memory as its caller says, a refused one any other buffer, and the state may be copied between calls.
+--   some_one, none_some   an answer, or none
 --   open_step ..     one call; open_done, opening_step: an opening that is not refused, whatever the header and the words before it
 --   demand           any list of calls on a state that matches what is open
 --   demand_opened    any list of calls, from an opening on that is not refused, whatever the header and the memory before the first call
@@ -28,7 +27,7 @@ use Rattle.gf2.proofs.Chosen.{placed_length}
 use Rattle.std.specs.Prelude.{Result, Ok, Err}
 use Rattle.format.specs.Refusals.{refusal, number, IsRefused}
 use Rattle.format.specs.declared.Refusal.{Refusal}
-pub use Rattle.format.proofs.Answering.{RefusedOrNot, refused_or, refused_is}
+use Rattle.format.proofs.Answering.{RefusedOrNot, refused_or, refused_is}
 use Rattle.format.specs.Sheet.{n_of, sheet_rows}
 use Rattle.format.proofs.Refusing.{never}
 use Rattle.linear.proofs.Joined.{codes_length}

@@ -21,7 +21,7 @@ use Rattle.gf2.specs.Rows.{Var}
 use Rattle.gf2.specs.Answers.{variable, Position, withdrawn, moved, AssumeAnswer, held, conflict, implied, ExplainAnswer}
 use Rattle.format.specs.Refusals.{refusal, number, answered}
 use Rattle.format.specs.declared.Refusal.{Refusal}
-use Rattle.format.proofs.Answering.{number_pos}
+use Rattle.format.proofs.Answering.{number_pos, RefusedOrNot, refused_or, refused_is}
 use Rattle.judge.specs.declared.Header.{Header}
 use Rattle.judge.specs.Checks.{back_checks}
 use Rattle.judge.proofs.LineEleven.{is_fit}
@@ -32,7 +32,7 @@ use Rattle.parity.specs.declared.Explained.{Explained}
 use Rattle.parity.specs.Numbers.{assume_says}
 use Rattle.parity.specs.Promises.{Stands, AssumePromise, AssumeLeaves, BackPromise, ExplainPromise, ExplainLeaves, ExplainRight}
 use Rattle.history.specs.Calls.{Counted}
-use Rattle.history.proofs.Demand.{counted, RefusedOrNot, refused_or, refused_is, some_one, none_some}
+use Rattle.history.proofs.Demand.{counted, some_one, none_some}
 use Rattle.history.proofs.Determined.{AssumeRefusal, ExplainRefusal}
 use Rattle.history.proofs.Accepted.{assume_accepted, back_accepted, explain_accepted}
 use Rattle.dialogue.specs.declared.Step.{Step}

@@ -22,8 +22,8 @@ use Rattle.gf2.proofs.Unique.{open_unique, assume_unique}
 use Rattle.gf2.proofs.Explained.{explain_unique, explanation}
 use Rattle.gf2.proofs.Reach.{reached_solution, opened_reached, assumed_reached, withdrawn_reached}
 use Rattle.format.specs.Sheet.{n_of, sheet_rows}
+use Rattle.format.proofs.Answering.{RefusedOrNot, refused_or}
 use Rattle.lines.specs.Lines.{Said, text}
-use Rattle.history.proofs.Demand.{RefusedOrNot, refused_or}
 use Rattle.dialogue.specs.Dialogue.{sheet_end, command_of, kind, operand, opening_line, assume_line}
 use Rattle.play.specs.Session.{most_bytes, sheet_part, command_part, sheet_refusal, Command, assumed, no_literal, gone_back, too_deep, explained, unexplained, no_variable, Commands, over, ended, then, Session, SessionOn, Says, refused, contradicted, commanded}
 use Rattle.play.specs.Pages.{Spoken}

@@ -18,13 +18,14 @@ use Rattle.format.specs.Refusals.{refusal}
 use Rattle.format.specs.declared.Refusal.{Refusal}
 use Rattle.format.proofs.Refusing.{never}
 use Rattle.format.specs.Sheet.{n_of, m_of, sheet_rows, reader}
+use Rattle.format.proofs.Answering.{RefusedOrNot, refused_or, refused_is}
 use Rattle.judge.specs.declared.Header.{Header}
 use Rattle.lines.specs.Lines.{text}
 use Rattle.lines.proofs.Puts.{put_text}
 use Rattle.parity.specs.declared.Opening.{Opening}
 use Rattle.parity.specs.declared.Opening.TheVariants.{Unsatisfiable, Opened}
 use Rattle.parity.specs.Promises.{nothing_open, open_checks, OpenPromise, OpenDone}
-use Rattle.history.proofs.Demand.{RefusedOrNot, refused_or, refused_is, some_one}
+use Rattle.history.proofs.Demand.{some_one}
 use Rattle.history.proofs.Determined.{OpenRefusal}
 use Rattle.dialogue.specs.declared.Step.{Step}
 use Rattle.dialogue.proofs.Parts.{never_longer}
@@ -65,9 +66,9 @@ module _ {s store work literals rows page : List ℕ} (large : 2304 ≤ length s
   opening_so_far : {h : Header} (a : Result Opening Refusal) {store' work' literals' rows' : List ℕ}
       → OpenPromise nothing_open (sheet_part s) store work literals rows h a store' work' literals' rows' → (end : ℕ)
       → OpeningSoFar s h end work' literals' rows' a
-  opening_so_far {h} a {store'} {work'} {literals'} {rows'} promise end = go (refused_or (OpenRefusal nothing_open (sheet_part s) store work literals rows))
+  opening_so_far {h} a {store'} {work'} {literals'} {rows'} promise end = go (refused_or (OpenRefusal (sheet_part s) store work literals rows))
     where
-      same : OpenRefusal nothing_open (sheet_part s) store work literals rows ≡ sheet_refusal (sheet_part s)
+      same : OpenRefusal (sheet_part s) store work literals rows ≡ sheet_refusal (sheet_part s)
       same = roomy_checks (sheet_part s) (length store) (length work) (length literals) (length rows) large roomy.work_long roomy.literals_long roomy.rows_long
 
       within : sheet_end s ≤ length s
@@ -83,7 +84,7 @@ module _ {s store work literals rows page : List ℕ} (large : 2304 ≤ length s
           let right = subst (AnswersOpen (n_of (sheet_part s)) (sheet_rows (sheet_part s))) (sym (some_one _ d.said d.says)) d.right in
           so_far_more within (record { position = _; stands = d.leaves.4; after = λ more cs. session.commanded z right cs })
 
-      go : RefusedOrNot (OpenRefusal nothing_open (sheet_part s) store work literals rows) → OpeningSoFar s h end work' literals' rows' a
+      go : RefusedOrNot (OpenRefusal (sheet_part s) store work literals rows) → OpeningSoFar s h end work' literals' rows' a
       go (inl w) =
           let r = refused_is a (suc w.0) (promise.refused w.0 w.1).0 in
           rw r.1 (so_far_whole within (rw r.2 (session.refused (sym same ∙ w.1))))
