@@ -1,6 +1,6 @@
--- A CALL THAT IS REFUSED, whatever buffer it was lent.
+-- A CALL THAT ITS CHECKS REFUSE, whatever buffer it was lent.
 --   refused_right   the refusals of a list of checks are right
---   refused_aside   it is right where it is given, and the header is as it was
+--   refused_aside   such a refusal, under another number than 10 and 12, is right where it is given, and the header is as it was
 -- Assumes nothing.
 use mathlib.Core.Path.{◌≡◌, refl, sym, subst}
 use mathlib.Core.Bool.{true}

@@ -1,5 +1,5 @@
 -- DEMAND 3, from the promises alone: after any calls, each answer is what the definitions give for what is open, and the state matches what is then open.
--- Each call is lent as many words of one memory as its caller says, a refused one any other buffer, and the state may be copied between calls.
+-- Each call is lent as many words of one memory as its caller says, one that its checks refuse any other buffer, and the state may be copied between calls.
 --   some_one, none_some   an answer, or none
 --   open_step ..     one call; open_done, opening_step: an opening that is not refused, whatever the header and the words before it
 --   demand           any list of calls on a state that matches what is open

@@ -3,7 +3,7 @@
 --   event                    the call with its answer, as demand 3 reads it; open_event, assume_event, back_event, explain_event: of each kind of call
 --   Calls h mem h' mem'      any list of calls, one after another, on one memory:
 --     then                   a call is lent the front of it, as many words as its caller says (they may be too few), and the words behind those stay;
---     aside                  a refused call may have been lent any other buffer;
+--     aside                  a call that its checks refuse, with another number than 10 and 12, may have been lent any other buffer;
 --     copied                 between two calls the memory may be replaced by another one with the same first 4,096 words: a state may be copied
 --   CallsBy                  such a list of calls of any kind, given the event of one: of Called, or in capi of the exports
 --   events                   the events of a list of calls, in order

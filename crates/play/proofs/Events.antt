@@ -1,7 +1,7 @@
--- A SESSION IS A RUN OF CALLS as demand 3 reads them, and its text is their lines.
+-- A SESSION AND DEMAND 3: its text is the lines of a run of right events.
 --   event_line, lines_of   the line of an event, and the lines of a list of events, one after another
 --   command_event          a command that is answered is an event that is right at the position before it and leads to the position after it
---   commands_run, session_run   THE STATEMENT: the session is a run of such events from where nothing is open, and says their lines
+--   commands_run, session_run   THE STATEMENT: there is a run of events, from where nothing is open, each right where it is given, and the text is their lines
 -- Assumes nothing.
 use mathlib.Core.Path.{◌≡◌, refl, sym, ap, ◌∙◌, subst}
 use mathlib.Core.List.{List, [], ◌∷◌, ◌++◌, append-nil}

@@ -1,4 +1,5 @@
-// A session in pages: the lines of one command after another are put into a page, and each page is written as soon as it is full.
+// A session in pages: the lines of one command after another are put into a page, and a page is written once it may have no room for
+// the next line, or once the session is over.
 #![tactic(auto)]
 
 ghost use Rattle.std.specs.Prelude.{◌≡◌, ◌+◌, ◌≤◌, ◌<◌, IfOk, IfSome, OnOk, OnErr, length, take, drop, true};
